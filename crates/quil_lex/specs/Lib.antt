@@ -1,0 +1,5 @@
+pub mod Token
+pub mod Line
+pub mod Reading
+pub mod Scan
+pub mod Cursor

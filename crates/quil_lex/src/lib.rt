@@ -1,0 +1,25 @@
+//! The tokens of Quil.
+//!
+//! `tokens` splits a text into segments, one for each statement or blank line, each with its
+//! tokens: a token has its kind, the slice of its source, its line and its column. What it answers
+//! is what the lexical grammar of `specs/Token.antt` and `specs/Reading.antt` relates to the text,
+//! and nothing else; where no token begins at a byte, it names the first such byte.
+//! `tokens_to_bad_byte` also gives the tokens that stand before that byte. `tokens_stand_apart` is the
+//! law by which a text that is put together from tokens is read as those tokens.
+#![tactic(auto)]
+
+mod cursor;
+mod fault;
+mod read;
+mod scan;
+mod segment;
+mod token;
+
+pub use fault::LexFault;
+pub use read::{tokens, tokens_to_bad_byte};
+pub use scan::tokens_stand_apart;
+pub use segment::{End, Segment, Tokens};
+pub use token::{Kind, Mark, Token};
+
+#[cfg(test)]
+mod tests;

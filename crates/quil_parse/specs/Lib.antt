@@ -1,0 +1,4 @@
+pub mod Spelling
+pub mod View
+pub mod Cut
+pub mod Answer

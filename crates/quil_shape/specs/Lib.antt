@@ -1,0 +1,11 @@
+pub mod Shape
+pub mod Whole
+pub mod Front
+pub mod Expects
+pub mod Verdict
+pub mod Condition
+pub mod Outcome
+pub mod Reads
+pub mod Nested
+pub mod NestedReader
+pub mod Ambiguous

@@ -1,0 +1,3 @@
+pub mod WordLemmas
+pub mod Runs
+pub mod Regions

@@ -1,0 +1,101 @@
+//! The reply to a text: what is printed, and the status.
+
+ghost use Rattle.std.specs.Prelude.{◌≡◌, ◌+◌, ◌≤◌, ◌++◌, length, OnOk, IfOk, All};
+ghost use Rattle.qvm_step.specs.Program.{bits_of};
+ghost use Rattle.qvm.specs.Ends.{end_seen, reply_seen};
+ghost use Rattle.qvm.specs.Calls.{step_limit};
+ghost use Rattle.qvm.specs.RunText.{IsReplyTo, end_text, end_status, run_reply, not_built_reply, too_long_reply};
+
+use crate::run::{End, run};
+use crate::text::{memory_text, numbered_line, push_numbered};
+use quil_parse::{FirstFault, first};
+use qvm_step::Plan;
+use std::alloc::{AllocError, Global};
+
+// The most steps of a run. No text of the cut reaches it.
+const STEP_LIMIT: u32 = 1_000_000;
+
+const REFUSED: u8 = 1;
+
+/// What is printed, and the status.
+#[derive(Drop)]
+pub(crate) struct Reply {
+    pub output: Vec<u8>,
+    pub status: u8,
+}
+
+fn end_status(end: End) -> u8
+    ensures { result ≡ end_status (end_seen end) }
+{
+    match end {
+        End::Halted => 0,
+        End::AmplitudeLimit(_) => 4,
+        End::StepLimit => 5,
+    }
+}
+
+// Adds the line that says how a run ended, where it didn't halt.
+fn push_end(alloc: Global, output: &mut Vec<u8>, end: End) -> Result<(), AllocError>
+    ensures { OnOk result (output.new.items ≡ output.old.items ++ end_text (end_seen end)) }
+{
+    match end {
+        End::Halted => Ok(()),
+        End::AmplitudeLimit(line) => {
+            push_numbered(
+                alloc,
+                output,
+                "fault: 28 AmplitudeLimit line=",
+                u64::from(line),
+            )?;
+            Ok(())
+        }
+        End::StepLimit => {
+            output.extend_from_slice(b"step limit\n")?;
+            Ok(())
+        }
+    }
+}
+
+fn run_reply(alloc: Global, plan: &Plan) -> Result<Reply, AllocError>
+    ensures { IfOk result (λ reply. reply_seen reply ≡ run_reply step_limit plan.now) }
+{
+    let finish = run(alloc, plan, STEP_LIMIT)?;
+    let mut output = memory_text(alloc, plan.regions(), finish.bits.as_slice())?;
+    push_end(alloc, &mut output, finish.end)?;
+    Ok(Reply {
+        output,
+        status: end_status(finish.end),
+    })
+}
+
+fn not_built(alloc: Global, line: u32) -> Result<Reply, AllocError>
+    ensures { IfOk result (λ reply. reply_seen reply ≡ not_built_reply line) }
+{
+    let output = numbered_line(alloc, "error: 57 NotBuilt line=", u64::from(line))?;
+    Ok(Reply {
+        output,
+        status: REFUSED,
+    })
+}
+
+fn too_long(alloc: Global, length: u64) -> Result<Reply, AllocError>
+    ensures { IfOk result (λ reply. reply_seen reply ≡ too_long_reply length) }
+{
+    let output = numbered_line(alloc, "error: 7 TextTooLong length=", length)?;
+    Ok(Reply {
+        output,
+        status: REFUSED,
+    })
+}
+
+/// The reply to a text: it is too long, or it leaves the cut at a line, or its program is run.
+pub(crate) fn answer(alloc: Global, text: &[u8]) -> Result<Reply, AllocError>
+    ensures { IfOk result (λ reply. IsReplyTo step_limit text.now (reply_seen reply)) }
+{
+    match first(alloc, text) {
+        Ok(plan) => run_reply(alloc, &plan),
+        Err(FirstFault::NotBuilt { line }) => not_built(alloc, line),
+        Err(FirstFault::TextTooLong { length }) => too_long(alloc, length),
+        Err(FirstFault::OutOfMemory) => Err(AllocError),
+    }
+}

@@ -1,0 +1,96 @@
+//! The top call of the commands that need no network: words and bytes in, bytes and a status out.
+
+ghost use Rattle.std.specs.Prelude.{◌≡◌, ◌↔◌, IsTrue, map, string_bytes, codes};
+ghost use Rattle.qvm_io.specs.Causes.{NeverFalls};
+ghost use Rattle.qvm.specs.Calls.{IsRunCommand, RunEnds, UsageEnds, Gives, usage_text};
+
+use crate::answer::answer;
+use qvm_io::{ReadError, Sink, Source, read_all, write_all};
+use std::alloc::Global;
+
+// The most bytes that `run` reads: one more than a text may have.
+const READ_BOUND: usize = 1_048_577;
+
+// The statuses that say nothing of a program.
+const USAGE_STATUS: u8 = 2;
+
+const READ_FAULT: u8 = 6;
+
+const WRITE_FAULT: u8 = 7;
+
+const OUT_OF_MEMORY: u8 = 8;
+
+fn is_run(words: &[String]) -> bool
+    ensures { IsTrue result ↔ IsRunCommand (map string_bytes words.now) }
+{
+    match words {
+        [word] => word.as_str() == "run",
+        _ => false,
+    }
+}
+
+// Writes the output, and gives the status that goes with it, or that of a write fault.
+fn given<K: Sink>(sink: &mut K, output: &[u8], status: u8) -> u8
+    ensures given { Gives (record { taken_before = K.bytes_taken sink.old; taken_after = K.bytes_taken sink.new; faults_before = K.faults sink.old; faults_after = K.faults sink.new }) output.now status result }
+    ensures count { NeverFalls (K.faults sink.old) (K.faults sink.new) }
+{
+    match write_all(sink, output) {
+        Ok(()) => status,
+        Err(_) => WRITE_FAULT,
+    }
+}
+
+fn usage<K: Sink>(sink: &mut K) -> u8
+    ensures given { UsageEnds (record { taken_before = K.bytes_taken sink.old; taken_after = K.bytes_taken sink.new; faults_before = K.faults sink.old; faults_after = K.faults sink.new }) result }
+    ensures count { NeverFalls (K.faults sink.old) (K.faults sink.new) }
+{
+    let line = b"usage: qvm run | pipe | gen | audit | serve | call\n";
+    given(sink, line, USAGE_STATUS)
+}
+
+fn run<S: Source, K: Sink>(alloc: Global, source: &mut S, sink: &mut K) -> u8
+    ensures ends { RunEnds
+        (record { left_before = S.bytes_left source.old; left_after = S.bytes_left source.new; at_end_after = S.saw_end source.new; faults_before = S.faults source.old; faults_after = S.faults source.new })
+        (record { taken_before = K.bytes_taken sink.old; taken_after = K.bytes_taken sink.new; faults_before = K.faults sink.old; faults_after = K.faults sink.new })
+        result }
+    ensures source_count { NeverFalls (S.faults source.old) (S.faults source.new) }
+    ensures sink_count { NeverFalls (K.faults sink.old) (K.faults sink.new) }
+{
+    let text = match read_all(alloc, source, READ_BOUND) {
+        Ok(text) => text,
+        Err(ReadError::Failed) => return READ_FAULT,
+        Err(ReadError::OutOfMemory) => return OUT_OF_MEMORY,
+    };
+    match answer(alloc, &text) {
+        Ok(reply) => given(sink, &reply.output, reply.status),
+        Err(_) => OUT_OF_MEMORY,
+    }
+}
+
+/// The program behind its name: the words after it, a source and a sink, and the status that it ends with.
+///
+/// The one word `run` reads a program of the first cut of Quil from the source, runs it, and writes its memory. Everything else is a
+/// usage refusal, which reads nothing.
+pub fn local_main<S: Source, K: Sink>(
+    alloc: Global,
+    words: &[String],
+    source: &mut S,
+    sink: &mut K,
+) -> u8
+    ensures run { IsRunCommand (map string_bytes words.now) → RunEnds
+        (record { left_before = S.bytes_left source.old; left_after = S.bytes_left source.new; at_end_after = S.saw_end source.new; faults_before = S.faults source.old; faults_after = S.faults source.new })
+        (record { taken_before = K.bytes_taken sink.old; taken_after = K.bytes_taken sink.new; faults_before = K.faults sink.old; faults_after = K.faults sink.new })
+        result }
+    ensures usage { ¬ (IsRunCommand (map string_bytes words.now)) → UsageEnds
+        (record { taken_before = K.bytes_taken sink.old; taken_after = K.bytes_taken sink.new; faults_before = K.faults sink.old; faults_after = K.faults sink.new })
+        result }
+    ensures reads_nothing { ¬ (IsRunCommand (map string_bytes words.now)) → source.new ≡ source.old }
+    ensures source_count { NeverFalls (S.faults source.old) (S.faults source.new) }
+    ensures sink_count { NeverFalls (K.faults sink.old) (K.faults sink.new) }
+{
+    if is_run(words) {
+        run(alloc, source, sink)
+    } else {
+        usage(sink)
+    }
+}

@@ -1,0 +1,15 @@
+pub mod RingLemmas
+pub mod SignLemmas
+pub mod RayLemmas
+pub mod Bits
+pub mod Elements
+pub mod FiniteMaps
+pub mod Pieces
+pub mod Loops
+pub mod Reductions
+pub mod GateProducts
+pub mod Bounds
+pub mod Norms
+pub mod Measures
+pub mod NormLoops
+pub mod Projections

@@ -1,0 +1,8 @@
+pub mod Ring
+pub mod Ray
+pub mod Gate
+pub mod Measure
+pub mod Examples
+pub mod Parts
+pub mod Views
+pub mod NormViews

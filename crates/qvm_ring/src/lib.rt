@@ -1,0 +1,25 @@
+//! Exact amplitudes: the definitions of the ring Z[ω], of rays, gates and measurements in `specs/`, and their laws.
+//!
+//! Each law is the contract of a function with an empty body. So are the worked examples, which the check computes.
+#![tactic(auto)]
+
+mod amp;
+mod entries;
+mod examples;
+mod fault;
+mod laws;
+mod measure_laws;
+mod norm;
+mod products;
+mod ray;
+
+pub use amp::Amp;
+pub use examples::{gates_by_hand, measurements_by_hand, rays_by_hand};
+pub use fault::ApplyFault;
+pub use laws::{
+    gates_are_unitary, norm_is_product_with_conjugate, quotient_times_root_two, reduced_rays,
+    sign_of_norms,
+};
+pub use measure_laws::{norms_are_positive, outcomes_keep_some};
+pub use norm::Norm;
+pub use ray::Ray;

@@ -1,0 +1,5 @@
+pub mod Program
+pub mod Words
+pub mod Step
+pub mod Run
+pub mod Examples
