@@ -1,6 +1,6 @@
 //! The tokens of Quil.
 //!
-//! `tokens` splits a text into segments, one for each statement or blank line, each with its
+//! `tokens` splits a text into segments, one for each `;` and each line end, each with its
 //! tokens: a token has its kind, the slice of its source, its line and its column. What it answers
 //! is what the lexical grammar of `specs/Token.antt` and `specs/Reading.antt` relates to the text,
 //! and nothing else; where no token begins at a byte, it names the first such byte.

@@ -1,3 +1,4 @@
 pub mod WordLemmas
 pub mod Runs
 pub mod Regions
+pub mod Replies

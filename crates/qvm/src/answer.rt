@@ -1,6 +1,6 @@
 //! The reply to a text: what is printed, and the status.
 
-ghost use Rattle.std.specs.Prelude.{◌≡◌, ◌+◌, ◌≤◌, ◌++◌, length, OnOk, IfOk, All};
+ghost use Rattle.std.specs.Prelude.{◌≡◌, ◌+◌, ◌<◌, ◌≤◌, ◌++◌, length, OnOk, IfOk, All};
 ghost use Rattle.qvm_step.specs.Program.{bits_of};
 ghost use Rattle.qvm.specs.Ends.{end_seen, reply_seen};
 ghost use Rattle.qvm.specs.Calls.{step_limit};
@@ -25,7 +25,8 @@ pub(crate) struct Reply {
 }
 
 fn end_status(end: End) -> u8
-    ensures { result ≡ end_status (end_seen end) }
+    ensures value { result ≡ end_status (end_seen end) }
+    ensures bound { result < 6 }
 {
     match end {
         End::Halted => 0,
@@ -57,7 +58,8 @@ fn push_end(alloc: Global, output: &mut Vec<u8>, end: End) -> Result<(), AllocEr
 }
 
 fn run_reply(alloc: Global, plan: &Plan) -> Result<Reply, AllocError>
-    ensures { IfOk result (λ reply. reply_seen reply ≡ run_reply step_limit plan.now) }
+    ensures reply { IfOk result (λ reply. reply_seen reply ≡ run_reply step_limit plan.now) }
+    ensures status { IfOk result (λ reply. reply.status < 6) }
 {
     let finish = run(alloc, plan, STEP_LIMIT)?;
     let mut output = memory_text(alloc, plan.regions(), finish.bits.as_slice())?;
@@ -69,7 +71,8 @@ fn run_reply(alloc: Global, plan: &Plan) -> Result<Reply, AllocError>
 }
 
 fn not_built(alloc: Global, line: u32) -> Result<Reply, AllocError>
-    ensures { IfOk result (λ reply. reply_seen reply ≡ not_built_reply line) }
+    ensures reply { IfOk result (λ reply. reply_seen reply ≡ not_built_reply line) }
+    ensures status { IfOk result (λ reply. reply.status < 6) }
 {
     let output = numbered_line(alloc, "error: 57 NotBuilt line=", u64::from(line))?;
     Ok(Reply {
@@ -79,7 +82,8 @@ fn not_built(alloc: Global, line: u32) -> Result<Reply, AllocError>
 }
 
 fn too_long(alloc: Global, length: u64) -> Result<Reply, AllocError>
-    ensures { IfOk result (λ reply. reply_seen reply ≡ too_long_reply length) }
+    ensures reply { IfOk result (λ reply. reply_seen reply ≡ too_long_reply length) }
+    ensures status { IfOk result (λ reply. reply.status < 6) }
 {
     let output = numbered_line(alloc, "error: 7 TextTooLong length=", length)?;
     Ok(Reply {
@@ -90,7 +94,8 @@ fn too_long(alloc: Global, length: u64) -> Result<Reply, AllocError>
 
 /// The reply to a text: it is too long, or it leaves the cut at a line, or its program is run.
 pub(crate) fn answer(alloc: Global, text: &[u8]) -> Result<Reply, AllocError>
-    ensures { IfOk result (λ reply. IsReplyTo step_limit text.now (reply_seen reply)) }
+    ensures reply { IfOk result (λ reply. IsReplyTo step_limit text.now (reply_seen reply)) }
+    ensures status { IfOk result (λ reply. reply.status < 6) }
 {
     match first(alloc, text) {
         Ok(plan) => run_reply(alloc, &plan),

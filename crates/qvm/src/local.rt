@@ -1,6 +1,6 @@
 //! The top call of the commands that need no network: words and bytes in, bytes and a status out.
 
-ghost use Rattle.std.specs.Prelude.{◌≡◌, ◌↔◌, IsTrue, map, string_bytes, codes};
+ghost use Rattle.std.specs.Prelude.{◌≡◌, ◌⊎◌, ◌<◌, ◌↔◌, IsTrue, map, string_bytes, codes};
 ghost use Rattle.qvm_io.specs.Causes.{NeverFalls};
 ghost use Rattle.qvm.specs.Calls.{IsRunCommand, RunEnds, UsageEnds, Gives, usage_text};
 
@@ -31,6 +31,8 @@ fn is_run(words: &[String]) -> bool
 
 // Writes the output, and gives the status that goes with it, or that of a write fault.
 fn given<K: Sink>(sink: &mut K, output: &[u8], status: u8) -> u8
+    requires { status < 6 }
+    ensures own { (result ≡ status) ⊎ (result ≡ 7) }
     ensures given { Gives (record { taken_before = K.bytes_taken sink.old; taken_after = K.bytes_taken sink.new; faults_before = K.faults sink.old; faults_after = K.faults sink.new }) output.now status result }
     ensures count { NeverFalls (K.faults sink.old) (K.faults sink.new) }
 {
@@ -41,6 +43,7 @@ fn given<K: Sink>(sink: &mut K, output: &[u8], status: u8) -> u8
 }
 
 fn usage<K: Sink>(sink: &mut K) -> u8
+    ensures own { (result ≡ 2) ⊎ (result ≡ 7) }
     ensures given { UsageEnds (record { taken_before = K.bytes_taken sink.old; taken_after = K.bytes_taken sink.new; faults_before = K.faults sink.old; faults_after = K.faults sink.new }) result }
     ensures count { NeverFalls (K.faults sink.old) (K.faults sink.new) }
 {
@@ -53,6 +56,8 @@ fn run<S: Source, K: Sink>(alloc: Global, source: &mut S, sink: &mut K) -> u8
         (record { left_before = S.bytes_left source.old; left_after = S.bytes_left source.new; at_end_after = S.saw_end source.new; faults_before = S.faults source.old; faults_after = S.faults source.new })
         (record { taken_before = K.bytes_taken sink.old; taken_after = K.bytes_taken sink.new; faults_before = K.faults sink.old; faults_after = K.faults sink.new })
         result }
+    ensures read_fault { result ≡ 6 → sink.new ≡ sink.old }
+    ensures no_memory { result ≡ 8 → sink.new ≡ sink.old }
     ensures source_count { NeverFalls (S.faults source.old) (S.faults source.new) }
     ensures sink_count { NeverFalls (K.faults sink.old) (K.faults sink.new) }
 {
@@ -85,6 +90,8 @@ pub fn local_main<S: Source, K: Sink>(
         (record { taken_before = K.bytes_taken sink.old; taken_after = K.bytes_taken sink.new; faults_before = K.faults sink.old; faults_after = K.faults sink.new })
         result }
     ensures reads_nothing { ¬ (IsRunCommand (map string_bytes words.now)) → source.new ≡ source.old }
+    ensures read_fault { result ≡ 6 → sink.new ≡ sink.old }
+    ensures no_memory { result ≡ 8 → sink.new ≡ sink.old }
     ensures source_count { NeverFalls (S.faults source.old) (S.faults source.new) }
     ensures sink_count { NeverFalls (K.faults sink.old) (K.faults sink.new) }
 {

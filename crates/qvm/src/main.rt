@@ -5,8 +5,11 @@
 #![tactic(auto)]
 
 mod answer;
+mod laws;
 mod local;
 mod run;
+#[cfg(test)]
+mod tests;
 mod text;
 
 use local::local_main;
@@ -18,8 +21,10 @@ use std::{env, io};
 // The words after the program's name. Where they can't be read as text there are none, which is a usage refusal.
 fn words_of(rt: &(impl std::rt::Env + AllocGlobal)) -> Result<Vec<String>, AllocError> {
     let mut words = Vec::new(rt.alloc());
-    let Ok(all) = env::args(rt) else {
-        return Ok(words);
+    let all = match env::args(rt) {
+        Ok(all) => all,
+        Err(error) if error.kind() == io::ErrorKind::OutOfMemory => return Err(AllocError),
+        Err(_) => return Ok(words),
     };
     for word in all.skip(1) {
         words.push(word)?;

@@ -11,8 +11,7 @@ use std::alloc::Global;
 const CHUNK: usize = 4096;
 
 /// Reads to the end of the input or until `bound` bytes are read, and gives the bytes. It never asks
-/// for a byte past the bound, and doesn't read on after a read gave 0; with the bound 0 it doesn't
-/// read at all.
+/// for a byte past the bound, and stops at a read that gave 0.
 pub fn read_all<S: Source>(
     alloc: Global,
     source: &mut S,

@@ -13,3 +13,4 @@ pub mod Norms
 pub mod Measures
 pub mod NormLoops
 pub mod Projections
+pub mod Listed

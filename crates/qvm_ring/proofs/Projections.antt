@@ -48,7 +48,7 @@ weight_lone [] h = omega arith
 weight_lone (e ∷ []) h = omega arith
 weight_lone (e ∷ f ∷ es) h = omega arith
 
-weight_reduced_le : (ray : Ray) → 0 < weight ray → weight (reduced ray) ≤ weight ray
+pub weight_reduced_le : (ray : Ray) → 0 < weight ray → weight (reduced ray) ≤ weight ray
 unfolding reduced
 weight_reduced_le ray h = let r = weight_divided_between (weight ray) ray h in omega (arith, weight_lone (divided (weight ray) ray) r.0, r.1)
 

@@ -1,8 +1,8 @@
 -- What contracts see of the program's amplitudes and of lists of them.
-use Rattle.std.specs.Prelude.{ℕ, ◌<◌, ◌^◌, List, [], ◌∷◌, nat_abs}
+use Rattle.std.specs.Prelude.{ℕ, zero, suc, ◌<◌, ◌^◌, List, [], ◌∷◌, nat_abs}
 use Rattle.qvm_ring.specs.declared.amp.Amp.{Amp}
 use Rattle.qvm_ring.specs.declared.entries.Entry.{Entry}
-use Rattle.qvm_ring.specs.Ring.{Element}
+use Rattle.qvm_ring.specs.Ring.{Element, nought}
 use Rattle.qvm_ring.specs.Ray.{Ray, IsFiniteMap, weight}
 
 -- the ring element that an amplitude means
@@ -29,3 +29,9 @@ IsLight e = (e.basis < 2 ^ 16) × IsBelow (2 ^ 62) (element_of e.amplitude)
 pub record IsBounded (bound : ℕ) (es : List Entry) : Type 0 where
   pub map : IsFiniteMap 0 (2 ^ 16) (amplitudes_of es)
   pub weight : weight (amplitudes_of es) < bound
+
+-- the element at a place of a list of amplitudes, and 0 behind its end
+abbrev pub element_at : List Amp → ℕ → Element
+element_at [] x = nought
+element_at (z ∷ zs) zero = element_of z
+element_at (z ∷ zs) (suc x) = element_at zs x

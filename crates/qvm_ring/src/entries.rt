@@ -91,18 +91,29 @@ pub(crate) fn moved(
     Ok(part)
 }
 
-// Adds the sum of two entries of one basis state, where it isn't 0.
+/// Adds an entry, where its amplitude isn't 0.
 #[tactic(auto, using(crate::proofs::Loops::amplitudes_of_append))]
+pub(crate) fn push_if_any(
+    entries: &mut Vec<Entry>,
+    basis: u32,
+    amplitude: Amp,
+) -> Result<(), AllocError>
+    ensures { OnOk result (amplitudes_of entries.new.items ≡ amplitudes_of entries.old.items ++ entry_if_any basis (element_of amplitude)) }
+{
+    if !amplitude.is_zero() {
+        entries.push(Entry { basis, amplitude })?;
+    }
+    Ok(())
+}
+
+// Adds the sum of two entries of one basis state, where it isn't 0.
 fn push_sum(sum: &mut Vec<Entry>, left: Entry, right: Entry) -> Result<(), AllocError>
     requires left { IsLight left }
     requires right { IsLight right }
     ensures { OnOk result (amplitudes_of sum.new.items ≡ amplitudes_of sum.old.items ++ entry_if_any left.basis (plus (element_of left.amplitude) (element_of right.amplitude))) }
 {
     let amplitude = left.amplitude.plus(right.amplitude);
-    if !amplitude.is_zero() {
-        let basis = left.basis;
-        sum.push(Entry { basis, amplitude })?;
-    }
+    push_if_any(sum, left.basis, amplitude)?;
     Ok(())
 }
 

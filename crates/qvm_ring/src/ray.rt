@@ -1,4 +1,4 @@
-//! Rays: exact states of at most 16 qubits up to a factor, in reduced form.
+//! Rays: exact states of at most 16 qubits up to a factor.
 
 use crate::amp::Amp;
 use crate::entries::Entry;
@@ -7,6 +7,7 @@ use crate::products::{cnot_product, h_product, settled, x_product};
 use std::alloc::{AllocError, Global};
 use std::marker::Model;
 
+mod amplitudes;
 mod measure;
 
 /// The state of up to 16 qubits, up to a factor.

@@ -93,7 +93,7 @@ fn scaled_difference(one: i128, all: i128, word: u32) -> i128
 
 /// Whether a measurement with this word gives 1: word · N < 2^32 · N1, for the norm N of the ray and the norm N1 of the
 /// part in which the qubit is 1.
-pub fn is_one(one: Norm, all: Norm, word: u32) -> bool
+pub(crate) fn is_one(one: Norm, all: Norm, word: u32) -> bool
     requires part { IsNorm one }
     requires whole { IsNorm all }
     ensures { result ≡ exceeds (norm_seen one) (norm_seen all) word }
