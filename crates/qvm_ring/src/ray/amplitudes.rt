@@ -78,3 +78,58 @@ impl Ray {
         amplitude_at(&self.entries, basis)
     }
 }
+
+#[cfg(test)]
+mod tests {
+    use super::*;
+    use crate::fault::ApplyFault;
+    use std::test::Fail;
+
+    const AT: Amp = Amp {
+        a: 70_368_744_177_664,
+        b: 0,
+        c: 0,
+        d: 0,
+    };
+
+    const ABOVE: Amp = Amp {
+        a: 70_368_744_177_665,
+        b: 0,
+        c: 0,
+        d: 0,
+    };
+
+    // With 2^46 + 1 and 2^46 the product is 2^47 + 1 and 1, which √2 doesn't divide and which weighs more than 2^94.
+    #[test]
+    fn h_goes_past_the_limit(rt: HostRuntime) -> Result<(), Fail> {
+        let alloc = rt.alloc();
+        let mut ray = Ray::of(alloc, &[ABOVE, AT])?;
+        if 0 < ray.qubits() {
+            assert!(rt; ray.apply_h(alloc, 0) == Err(ApplyFault::AmplitudeLimit));
+            assert_eq!(rt; ray.amp(0), ABOVE);
+            assert_eq!(rt; ray.amp(1), AT);
+        }
+        assert_eq!(rt; ray.qubits(), 1);
+        Ok(())
+    }
+
+    // All 65,536 amplitudes are 1: none is divisible by √2, and they weigh 65,536.
+    #[test]
+    fn h_on_all_qubits(rt: HostRuntime) -> Result<(), Fail> {
+        let alloc = rt.alloc();
+        let mut ray = Ray::zero(alloc, 16)?;
+        for qubit in 0..16 {
+            assert!(rt; qubit < ray.qubits());
+            ray.apply_h(alloc, qubit)?;
+        }
+        assert_eq!(rt; ray.entries.len(), 65_536);
+        let mut basis = 0;
+        for entry in &ray.entries {
+            assert!(rt; basis < 65_536);
+            assert_eq!(rt; entry.basis, basis);
+            assert_eq!(rt; entry.amplitude, Amp::ONE, "at {basis}");
+            basis += 1;
+        }
+        Ok(())
+    }
+}
