@@ -5,7 +5,7 @@ ghost use Rattle.qvm.specs.RunText.{Reply, IsReplyTo};
 
 use quil_parse::{none_where_breaks, one_break, one_program};
 
-/// A text has one reply.
+/// A text has at most one reply.
 pub fn one_reply()
     ensures { (limit : ℕ) (text : List ℕ) (r s : Reply) → IsReplyTo limit text r → IsReplyTo limit text s → r ≡ s }
 {
