@@ -14,3 +14,4 @@ pub mod Measures
 pub mod NormLoops
 pub mod Projections
 pub mod Listed
+pub mod SmallRays

@@ -17,7 +17,7 @@ element_at_is [] i d h = absurd (omega arith)
 element_at_is (z ∷ zs) zero d h = refl
 element_at_is (z ∷ zs) (suc i) d h = element_at_is zs i d (omega arith)
 
-one_more : (n : ℕ) (f : ℕ → Element) → ray_of (n + 1) f ≡ ray_of n f ++ entry_if_any n (f n)
+pub one_more : (n : ℕ) (f : ℕ → Element) → ray_of (n + 1) f ≡ ray_of n f ++ entry_if_any n (f n)
 one_more n f = ap (λ (k : ℕ). ray_of k f) (add-one n)
 
 -- the entries so far and the next amplitude, where it isn't 0, are those of one place more

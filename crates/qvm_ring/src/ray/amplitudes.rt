@@ -10,6 +10,9 @@ use crate::products::into_reduced;
 use crate::ray::Ray;
 use std::alloc::{AllocError, Global};
 
+#[cfg(test)]
+mod plain_sums;
+
 // The number of qubits of a ray with so many basis states.
 fn qubits_of(count: usize) -> u32
     requires { (n : ℕ) × (n ≤ 16) × (count ≡ 2 ^ n) }
