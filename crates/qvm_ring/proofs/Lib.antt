@@ -15,3 +15,4 @@ pub mod NormLoops
 pub mod Projections
 pub mod Listed
 pub mod SmallRays
+pub mod Padded

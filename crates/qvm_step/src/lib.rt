@@ -7,6 +7,8 @@ mod plan;
 mod state;
 mod step;
 mod stepped;
+#[cfg(test)]
+mod tests;
 mod words;
 
 pub use laws::{steps_by_hand, word_matters_at_measure_alone};
