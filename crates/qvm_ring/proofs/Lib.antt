@@ -16,3 +16,4 @@ pub mod Projections
 pub mod Listed
 pub mod SmallRays
 pub mod Padded
+pub mod Lookups

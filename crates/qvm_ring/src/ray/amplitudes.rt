@@ -1,7 +1,7 @@
 //! Rays from amplitudes, and amplitudes of rays.
 
 ghost use Rattle.std.specs.Prelude.{◌≡◌, ℕ, ◌+◌, ◌^◌, ◌<◌, ◌≤◌, length, IfOk, All};
-ghost use Rattle.qvm_ring.specs.Ray.{ray_of, amplitude_at};
+ghost use Rattle.qvm_ring.specs.Ray.{ray_of, amplitude_at, IsFiniteMap};
 ghost use Rattle.qvm_ring.specs.Views.{amplitudes_of, element_of, element_at};
 
 use crate::amp::Amp;
@@ -42,14 +42,13 @@ fn entries_of(alloc: Global, amplitudes: &[Amp]) -> Result<Vec<Entry>, AllocErro
 
 // The amplitude of a basis state: 0 where no entry has it.
 fn amplitude_at(entries: &[Entry], basis: u32) -> Amp
+    requires { IsFiniteMap 0 (2 ^ 16) (amplitudes_of entries.now) }
     ensures { element_of result ≡ amplitude_at (amplitudes_of entries.now) basis }
 {
-    for entry in entries {
-        if entry.basis == basis {
-            return entry.amplitude;
-        }
+    match entries.binary_search_by_key(&basis, |entry| entry.basis) {
+        Ok(place) => entries[place].amplitude,
+        Err(_) => Amp::ZERO,
     }
-    Amp::ZERO
 }
 
 impl Ray {
