@@ -1,6 +1,6 @@
 //! One step of the machine.
 
-ghost use Rattle.std.specs.Prelude.{◌≡◌, ◌≢◌, ◌<◌, ◌^◌, [], ◌∷◌, length};
+ghost use Rattle.std.specs.Prelude.{◌≡◌, ◌≢◌, ◌+◌, ◌<◌, ◌^◌, [], ◌∷◌, length, OnOk, Err};
 ghost use Rattle.qvm_ring.specs.Gate.{x_gate, h_gate, cnot_gate};
 ghost use Rattle.qvm_ring.specs.Measure.{outcome, kept};
 ghost use Rattle.qvm_ring.specs.NormViews.{bit_number};
@@ -14,16 +14,16 @@ use crate::stepped::{Fault, Stepped};
 use qvm_ring::{ApplyFault, Ray, outcomes_keep_some};
 use std::alloc::Global;
 
-// X, H and CNOT each as a step of its own: the gate, and then the place.
-
-fn x_step(alloc: Global, state: &mut FirstState, qubit: u32, line: u32) -> Stepped
-    requires one { qubit < state.old.ray.qubits }
-    requires place { state.old.at < 2 ^ 31 }
-    ensures { Answers result (after_gate x_gate (qubit ∷ []) line state.old) state.old state.new }
+// What a gate's answer makes of the step: the place moves on where the gate was applied.
+fn gate_step(applied: Result<(), ApplyFault>, at: &mut u32, line: u32) -> Stepped
+    requires { at.old < 2 ^ 31 }
+    ensures ok { OnOk applied ((result ≡ Stepped.Went) × (at.new ≡ at.old + 1)) }
+    ensures heavy { applied ≡ Err ApplyFault.AmplitudeLimit → (result ≡ Stepped.Fault (Fault.AmplitudeLimit line)) × (at.new ≡ at.old) }
+    ensures memory { applied ≡ Err ApplyFault.OutOfMemory → (result ≡ Stepped.OutOfMemory) × (at.new ≡ at.old) }
 {
-    match state.ray.apply_x(alloc, qubit) {
+    match applied {
         Ok(()) => {
-            state.at += 1;
+            *at += 1;
             Stepped::Went
         }
         Err(ApplyFault::AmplitudeLimit) => Stepped::Fault(Fault::AmplitudeLimit { line }),
@@ -31,19 +31,20 @@ fn x_step(alloc: Global, state: &mut FirstState, qubit: u32, line: u32) -> Stepp
     }
 }
 
+fn x_step(alloc: Global, state: &mut FirstState, qubit: u32, line: u32) -> Stepped
+    requires one { qubit < state.old.ray.qubits }
+    requires place { state.old.at < 2 ^ 31 }
+    ensures { Answers result (after_gate x_gate (qubit ∷ []) line state.old) state.old state.new }
+{
+    gate_step(state.ray.apply_x(alloc, qubit), &mut state.at, line)
+}
+
 fn h_step(alloc: Global, state: &mut FirstState, qubit: u32, line: u32) -> Stepped
     requires one { qubit < state.old.ray.qubits }
     requires place { state.old.at < 2 ^ 31 }
     ensures { Answers result (after_gate h_gate (qubit ∷ []) line state.old) state.old state.new }
 {
-    match state.ray.apply_h(alloc, qubit) {
-        Ok(()) => {
-            state.at += 1;
-            Stepped::Went
-        }
-        Err(ApplyFault::AmplitudeLimit) => Stepped::Fault(Fault::AmplitudeLimit { line }),
-        Err(ApplyFault::OutOfMemory) => Stepped::OutOfMemory,
-    }
+    gate_step(state.ray.apply_h(alloc, qubit), &mut state.at, line)
 }
 
 fn cnot_step(alloc: Global, state: &mut FirstState, control: u32, target: u32, line: u32) -> Stepped
@@ -53,14 +54,11 @@ fn cnot_step(alloc: Global, state: &mut FirstState, control: u32, target: u32, l
     requires place { state.old.at < 2 ^ 31 }
     ensures { Answers result (after_gate cnot_gate (control ∷ target ∷ []) line state.old) state.old state.new }
 {
-    match state.ray.apply_cnot(alloc, control, target) {
-        Ok(()) => {
-            state.at += 1;
-            Stepped::Went
-        }
-        Err(ApplyFault::AmplitudeLimit) => Stepped::Fault(Fault::AmplitudeLimit { line }),
-        Err(ApplyFault::OutOfMemory) => Stepped::OutOfMemory,
-    }
+    gate_step(
+        state.ray.apply_cnot(alloc, control, target),
+        &mut state.at,
+        line,
+    )
 }
 
 // The outcome of a measurement by the word.
