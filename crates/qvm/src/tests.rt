@@ -69,6 +69,20 @@ fn runs(rt: HostRuntime) -> Result<(), Fail> {
         ("\n\n", "", 0),
         ("DECLARE ro BIT[1]\nX 0\nMEASURE 0 ro[0]\n", "ro: 1\n", 0),
         ("DECLARE ro BIT\nX 0\nMEASURE 0 ro[0]", "ro: 1\n", 0),
+        ("HALT", "", 0),
+        ("\n\nHALT\n\nHALT", "", 0),
+        ("X 0\nH 9\nX 10\nH 15", "", 0),
+        ("CNOT 0 1\nCNOT 15 3\n", "", 0),
+        ("MEASURE 7", "", 0),
+        ("DECLARE ro BIT[1]", "ro: 0\n", 0),
+        ("DECLARE ro BIT[10]", "ro: 0 0 0 0 0 0 0 0 0 0\n", 0),
+        ("DECLARE abcdefghijklmnop BIT", "abcdefghijklmnop: 0\n", 0),
+        ("DECLARE pis BIT\nDECLARE si BIT", "pis: 0\nsi: 0\n", 0),
+        (
+            "DECLARE aa BIT[3]\nDECLARE bb BIT[12]\nX 2\nMEASURE 2 bb[10]\nDECLARE cc BIT\nMEASURE 1 cc[0]\nMEASURE 2 aa[2]",
+            "aa: 0 0 1\nbb: 0 0 0 0 0 0 0 0 0 0 1 0\ncc: 0\n",
+            0,
+        ),
         (
             "DECLARE ro BIT\nDECLARE ab BIT[2]\nX 0\nHALT\nCNOT 0 1\n",
             "ro: 0\nab: 0 0\n",
@@ -119,32 +133,122 @@ fn runs(rt: HostRuntime) -> Result<(), Fail> {
     check_all(&rt, rt.alloc(), &cases)
 }
 
+// Texts that just miss a rule of the cut, and the line at which they leave it.
 #[test]
-fn refuses(rt: HostRuntime) -> Result<(), Fail> {
-    let cases = [
-        ("T 0\n", "error: 57 NotBuilt line=1\n", 1),
-        ("\nX 0\n\nX 16\n", "error: 57 NotBuilt line=4\n", 1),
-        ("X 00", "error: 57 NotBuilt line=1\n", 1),
-        ("DECLARE r BIT\n", "error: 57 NotBuilt line=1\n", 1),
+fn near_misses_are_refused(rt: HostRuntime) -> Result<(), Fail> {
+    let alloc = rt.alloc();
+    for (text, line) in [
+        // Names.
+        ("DECLARE a BIT", 1),
+        ("DECLARE r BIT\n", 1),
+        ("DECLARE abcdefghijklmnopq BIT", 1),
+        ("DECLARE pi BIT", 1),
+        ("DECLARE sqrt BIT", 1),
+        ("DECLARE sin BIT", 1),
+        ("DECLARE cos BIT", 1),
+        ("DECLARE cis BIT", 1),
+        ("DECLARE exp BIT[2]", 1),
+        ("DECLARE Ro BIT", 1),
+        ("DECLARE r0 BIT", 1),
+        ("DECLARE r_o BIT", 1),
+        ("DECLARE `o BIT", 1),
+        ("DECLARE {o BIT", 1),
+        ("DECLARE BIT", 1),
+        ("DECLARE  BIT", 1),
+        // Lengths.
+        ("DECLARE ro BIT[0]", 1),
+        ("DECLARE ro BIT[01]", 1),
+        ("DECLARE ro BIT[]", 1),
+        ("DECLARE ro BIT[+1]", 1),
+        ("DECLARE ro BIT[-1]", 1),
+        ("DECLARE ro BIT[65537]", 1),
+        ("DECLARE ro BIT[99999]", 1),
+        ("DECLARE ro BIT[4294967297]", 1),
+        ("DECLARE ro BIT[18446744073709551617]", 1),
         (
-            "DECLARE ro BIT\nDECLARE ro BIT\n",
-            "error: 57 NotBuilt line=2\n",
+            "DECLARE ro BIT[100000000000000000000000000000000000000000000000000000000000000001]",
             1,
         ),
-        (
-            "MEASURE 0 ro[0]\nDECLARE ro BIT\n",
-            "error: 57 NotBuilt line=1\n",
-            1,
-        ),
-        (
-            "DECLARE ro BIT\nMEASURE 0 ro[1]\n",
-            "error: 57 NotBuilt line=2\n",
-            1,
-        ),
-        ("X 0\r\n", "error: 57 NotBuilt line=1\n", 1),
-        ("CNOT 3 3\n", "error: 57 NotBuilt line=1\n", 1),
-    ];
-    check_all(&rt, rt.alloc(), &cases)
+        ("DECLARE ro BIT[1", 1),
+        ("DECLARE ro BIT1]", 1),
+        ("DECLARE ro BIT[1]]", 1),
+        ("DECLARE ro BIT[1] ", 1),
+        ("DECLARE ro BIT [1]", 1),
+        ("DECLARE ro bit", 1),
+        ("DECLARE ro BITS", 1),
+        ("DECLARE ro REAL", 1),
+        ("DECLARE ro", 1),
+        ("DECLARE ro ", 1),
+        ("DECLARE", 1),
+        // Declarations together.
+        ("DECLARE aa BIT[65536]\nDECLARE bb BIT", 2),
+        ("DECLARE aa BIT[32769]\nDECLARE bb BIT[32768]", 2),
+        ("DECLARE aa BIT\nDECLARE aa BIT", 2),
+        ("DECLARE aa BIT\n\nDECLARE bb BIT\nDECLARE aa BIT[2]", 4),
+        // Qubits.
+        ("X 16", 1),
+        ("X 00", 1),
+        ("X 01", 1),
+        ("X +1", 1),
+        ("X -1", 1),
+        ("X a", 1),
+        ("X  0", 1),
+        ("X 0 ", 1),
+        (" X 0", 1),
+        ("X 0 1", 1),
+        ("X 0\r", 1),
+        ("X 0\r\n", 1),
+        ("X\t0", 1),
+        ("X 0 # flip", 1),
+        ("X", 1),
+        ("X ", 1),
+        ("X 4294967296", 1),
+        ("x 0", 1),
+        ("h 0", 1),
+        ("H 16", 1),
+        ("Y 0", 1),
+        ("T 0\n", 1),
+        ("CNOT 1 1", 1),
+        ("CNOT 3 3\n", 1),
+        ("CNOT 1", 1),
+        ("CNOT 1 ", 1),
+        ("CNOT 1 2 3", 1),
+        ("CNOT 1  2", 1),
+        ("CNOT 16 0", 1),
+        ("CNOT 0 16", 1),
+        ("cnot 0 1", 1),
+        // Measurements.
+        ("DECLARE ro BIT\nMEASURE 0 ro[1]", 2),
+        ("DECLARE ro BIT\nMEASURE 0 ro", 2),
+        ("DECLARE ro BIT\nMEASURE 0 ro[00]", 2),
+        ("DECLARE ro BIT\nMEASURE 0 ro[0", 2),
+        ("DECLARE ro BIT\nMEASURE 0 ro [0]", 2),
+        ("DECLARE ro BIT\nMEASURE 0 ro[0] ", 2),
+        ("DECLARE ro BIT\nMEASURE 16 ro[0]", 2),
+        ("DECLARE ro BIT\nMEASURE ro[0]", 2),
+        ("DECLARE ro BIT\nMEASURE 0 rx[0]", 2),
+        ("DECLARE ro BIT\nMEASURE 0 ro[99999999999999999999]", 2),
+        ("MEASURE 0 ro[0]\nDECLARE ro BIT", 1),
+        ("MEASURE", 1),
+        ("MEASURE ", 1),
+        ("measure 0", 1),
+        // HALT.
+        ("HALT ", 1),
+        ("HALTX", 1),
+        ("halt", 1),
+        ("HAL", 1),
+        ("HALT\r\n", 1),
+        // The first line at which it breaks, of all lines.
+        (" ", 1),
+        ("\n \nY 0", 2),
+        ("\nX 0\n\nX 16\n", 4),
+        ("\n\nX 0\n\nX 16\nX 17", 5),
+        ("DECLARE ro BIT\n\nHALT\nY 0\n", 4),
+    ] {
+        let broken = format!(in alloc; "error: 57 NotBuilt line={line}\n")?;
+        check_all(&rt, alloc, &[(text, broken.as_str(), 1)])?;
+    }
+    Ok(())
 }
 
 #[test]
@@ -225,18 +329,51 @@ fn repeated(alloc: Global, line: &str, count: usize) -> Result<String, AllocErro
 #[test]
 fn limits_of_a_text(rt: HostRuntime) -> Result<(), Fail> {
     let alloc = rt.alloc();
-    let lines = repeated(alloc, "\n", 1_048_576)?;
-    check(&rt, alloc, lines.as_str(), 0, "", 0)?;
-    let lines = repeated(alloc, "\n", 1_048_577)?;
-    let refused = "error: 7 TextTooLong length=1048577\n";
-    check(&rt, alloc, lines.as_str(), 0, refused, 1)?;
-    let lines = repeated(alloc, "\n", 1_048_600)?;
-    check(&rt, alloc, lines.as_str(), 0, refused, 1)?;
-    let gates = repeated(alloc, "X 0\n", 65_536)?;
-    check(&rt, alloc, gates.as_str(), 0, "", 0)?;
-    let gates = repeated(alloc, "X 0\n", 65_537)?;
-    let broken = "error: 57 NotBuilt line=65537\n";
-    check(&rt, alloc, gates.as_str(), 0, broken, 1)
+    let longest = repeated(alloc, "\n", 1_048_576)?;
+    let longer = repeated(alloc, "\n", 1_048_577)?;
+    let too_long = "error: 7 TextTooLong length=1048577\n";
+    let cases = [(longest.as_str(), "", 0), (longer.as_str(), too_long, 1)];
+    check_all(&rt, alloc, &cases)?;
+    let much_longer = repeated(alloc, "\n", 1_048_600)?;
+    check(&rt, alloc, much_longer.as_str(), 0, too_long, 1)
+}
+
+#[test]
+fn limits_of_a_program(rt: HostRuntime) -> Result<(), Fail> {
+    let alloc = rt.alloc();
+    let most = repeated(alloc, "X 0\n", 65_536)?;
+    let more = repeated(alloc, "X 0\n", 65_537)?;
+    let zeros = repeated(alloc, " 0", 65_535)?;
+    let memory = format!(in alloc; "aa:{}\nbb: 0\n", zeros.as_str())?;
+    let cases = [
+        (most.as_str(), "", 0),
+        (more.as_str(), "error: 57 NotBuilt line=65537\n", 1),
+        ("DECLARE aa BIT[65535]\nDECLARE bb BIT", memory.as_str(), 0),
+    ];
+    check_all(&rt, alloc, &cases)
+}
+
+// The name of four letters that stands at a place in the dictionary.
+fn name_at(alloc: Global, place: u32) -> Result<String, AllocError> {
+    let mut name = String::new(alloc);
+    for rest in [place / 17_576, place / 676, place / 26, place] {
+        name.push(char::from(b'a' + (rest % 26) as u8))?;
+    }
+    Ok(name)
+}
+
+// As many declarations of different names of four letters as a text has room for.
+#[test]
+fn declarations_of_61_680_names(rt: HostRuntime) -> Result<(), Fail> {
+    let alloc = rt.alloc();
+    let mut text = String::new(alloc);
+    let mut memory = String::new(alloc);
+    for place in 0..61_680 {
+        let name = name_at(alloc, place)?;
+        text.push_str(format!(in alloc; "DECLARE {name} BIT\n")?.as_str())?;
+        memory.push_str(format!(in alloc; "{name}: 0\n")?.as_str())?;
+    }
+    check_all(&rt, alloc, &[(text.as_str(), memory.as_str(), 0)])
 }
 
 // MEASURE of each qubit into its bit.
