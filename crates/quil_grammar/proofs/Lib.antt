@@ -1,0 +1,10 @@
+pub mod Values
+pub mod Names
+pub mod Ends
+pub mod Atoms
+pub mod Operands
+pub mod Behind
+pub mod Expressions
+pub mod Writings
+pub mod Verdicts
+pub mod Only

@@ -1,0 +1,9 @@
+use Rattle.std.proofs.Common.{◌≡◌}
+use Rattle.quil_grammar.specs.declared.stop.Stop.TheVariants as stop
+use Rattle.quil_grammar.proofs.Verdicts.{stop_stands}
+use Rattle.quil_grammar.proofs.reader.expression.Goals as goal
+
+pub returns-clause-large : goal.returns-clause-large
+returns-clause-large c = λ e.
+    let large : c.in-Err.stop ≡ stop.TooLarge = cc in
+    stop_stands c.args.references c.args.words.now c.run.new.self.rest.now c.in-Err.stop c.in-Err.ensures.err large

@@ -1,0 +1,62 @@
+-- The tokens of a text as the grammar reads them.
+use Rattle.std.specs.Prelude.{ℕ, Bool, bytes_eq, List, [], ◌∷◌, ◌++◌, fold, if◌then◌else◌}
+use Rattle.std.specs.List.{list_any, position_or_len}
+use Rattle.quil_tree.specs.declared.place.Place.{Place}
+use Rattle.quil_lex.specs.declared.segment.End.{End}
+use Rattle.quil_lex.specs.declared.segment.End.TheVariants as end
+use Rattle.quil_lex.specs.Reading.{Lexeme, Span}
+use Rattle.quil_grammar.specs.declared.sort.Sort.{Sort}
+use Rattle.quil_grammar.specs.declared.sort.Sort.TheVariants as sort
+use Rattle.quil_grammar.specs.Sort.{sort_of, is_sort}
+
+-- a token: its sort, its bytes, its place, and of a parameter its number
+pub record Token : Type 0 where
+  pub sort : Sort
+  pub text : List ℕ
+  pub place : Place
+  pub number : ℕ
+
+-- the lexeme is a parameter
+abbrev pub is_parameter : Lexeme → Bool
+is_parameter l = is_sort (sort_of l.kind l.text) sort.Parameter
+
+-- names, and one more where it is none of them
+abbrev pub with_name : List (List ℕ) → List ℕ → List (List ℕ)
+with_name names name = if list_any (bytes_eq name) names then names else names ++ name ∷ []
+
+-- the parameters that have appeared, in the order of their first appearance
+abbrev pub names_with : List (List ℕ) → Lexeme → List (List ℕ)
+names_with names l = if is_parameter l then with_name names l.text else names
+
+-- how many parameters appeared before this one first did
+abbrev pub number_among : List (List ℕ) → List ℕ → ℕ
+number_among names text = position_or_len (bytes_eq text) names
+
+-- a lexeme behind those in which these parameters appeared
+abbrev pub token_of : List (List ℕ) → Lexeme → Token
+token_of names l = record { sort = sort_of l.kind l.text; text = l.text; place = record { line = l.line; column = l.column }; number = if is_parameter l then number_among names l.text else 0 }
+
+abbrev pub tokens_of : List (List ℕ) → List Lexeme → List Token
+tokens_of names [] = []
+tokens_of names (l ∷ ls) = token_of names l ∷ tokens_of (names_with names l) ls
+
+-- a byte that is a token of its own
+abbrev pub byte_token : Sort → ℕ → ℕ → Token
+byte_token s line column = record { sort = s; text = []; place = record { line = line; column = column }; number = 0 }
+
+-- a `;` and a byte at which no token begins are tokens; the end of a line is none
+abbrev pub end_tokens : ℕ → End → List Token
+end_tokens line end.Line = []
+end_tokens line (end.Semicolon column) = byte_token sort.Semicolon line column ∷ []
+end_tokens line (end.BadToken column) = byte_token sort.Bad line column ∷ []
+
+-- the tokens of spans, all lines as one
+abbrev pub tokens_among : List (List ℕ) → List Span → List Token
+tokens_among names [] = []
+tokens_among names (s ∷ ss) = tokens_of names s.lexemes ++ (end_tokens s.line s.end ++ tokens_among (fold names_with names s.lexemes) ss)
+
+-- the column behind the last byte of the last line
+abbrev pub end_of : List Span → Place
+end_of [] = record { line = 1; column = 1 }
+end_of (s ∷ []) = record { line = s.line; column = s.line_end }
+end_of (s ∷ t ∷ ss) = end_of (t ∷ ss)

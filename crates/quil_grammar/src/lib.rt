@@ -1,0 +1,25 @@
+//! The grammar of Quil's expressions, and their reader.
+//!
+//! The grammar is data over the theory of `quil_shape` (`specs/Grammar.antt`), and one token decides each choice in it. The
+//! reader is a loop over a stack of what is still to read, so no depth of a text is a depth of calls. `parse_expr` gives the
+//! one expression that the grammar relates to the bytes of a text, or its first fault with its place.
+#![tactic(auto)]
+
+mod class;
+mod fault;
+mod laws;
+mod parse;
+mod reader;
+mod sort;
+mod stop;
+mod value;
+mod word;
+mod words;
+
+pub use fault::ReadFault;
+pub use laws::{one_expression, one_token_decides, one_writing};
+pub use parse::parse_expr;
+pub use sort::Sort;
+
+#[cfg(test)]
+mod tests;

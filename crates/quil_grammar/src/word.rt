@@ -1,0 +1,67 @@
+//! The tokens of a text as the grammar reads them.
+
+ghost use Rattle.std.specs.Prelude.{◌≡◌};
+ghost use Rattle.quil_grammar.specs.Token.{Token};
+
+use crate::sort::Sort;
+use quil_tree::Place;
+use std::marker::Model;
+
+/// A token: its sort, its bytes, its place, and of a parameter its number.
+#[derive(Drop)]
+pub(crate) struct Word<'a> {
+    sort: Sort,
+    text: &'a [u8],
+    place: Place,
+    number: usize,
+}
+
+impl<'a> Model for Word<'a> {
+    ghost use Rattle.quil_grammar.specs.Token.{Token};
+
+    ghost Value = { Token };
+
+    ghost view = { λ w. record { sort = w.sort; text = w.text.now; place = w.place; number = w.number } };
+}
+
+impl<'a> Word<'a> {
+    /// A token of these parts.
+    pub(crate) fn new(sort: Sort, text: &'a [u8], place: Place, number: usize) -> Word<'a>
+        ensures { result ≡ record { sort = sort; text = text.now; place = place; number = number } }
+    {
+        Word {
+            sort,
+            text,
+            place,
+            number,
+        }
+    }
+
+    /// Its sort.
+    pub(crate) fn sort(&self) -> Sort
+        ensures { result ≡ self.now.sort }
+    {
+        self.sort
+    }
+
+    /// Its bytes.
+    pub(crate) fn text(&self) -> &'a [u8]
+        ensures { result.now ≡ self.now.text }
+    {
+        self.text
+    }
+
+    /// Its place.
+    pub(crate) fn place(&self) -> Place
+        ensures { result ≡ self.now.place }
+    {
+        self.place
+    }
+
+    /// The number of a parameter.
+    pub(crate) fn number(&self) -> usize
+        ensures { result ≡ self.now.number }
+    {
+        self.number
+    }
+}

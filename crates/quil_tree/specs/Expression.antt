@@ -1,0 +1,28 @@
+-- Expressions as trees, and the steps of a tree in reverse Polish order.
+use Rattle.std.specs.Prelude.{◌≡◌, List, [], ◌∷◌, ◌++◌}
+use Rattle.quil_tree.specs.declared.place.Place.{Place}
+use Rattle.quil_tree.specs.declared.expr.Atom.{Atom}
+use Rattle.quil_tree.specs.declared.expr.Sign.{Sign}
+use Rattle.quil_tree.specs.declared.expr.Operator.{Operator}
+use Rattle.quil_tree.specs.declared.expr.Function.{Function}
+use Rattle.quil_tree.specs.declared.expr.Action.TheVariants as action
+use Rattle.quil_tree.specs.declared.expr.Step.{Step}
+
+-- each expression with its place
+pub data Expression : Type 0 where
+  Leaf : Place → Atom → Expression
+  Signed : Place → Sign → Expression → Expression
+  Applied : Place → Operator → Expression → Expression → Expression
+  Called : Place → Function → Expression → Expression
+
+-- operands before their operation, from left to right
+abbrev pub postfix : Expression → List Step
+postfix (Leaf p a) = record { place = p; action = action.Push a } ∷ []
+postfix (Signed p s a) = postfix a ++ record { place = p; action = action.Sign s } ∷ []
+postfix (Applied p o a b) = postfix a ++ (postfix b ++ record { place = p; action = action.Apply o } ∷ [])
+postfix (Called p f a) = postfix a ++ record { place = p; action = action.Call f } ∷ []
+
+-- these are the steps of a tree
+pub record IsPostfix (steps : List Step) : Type 0 where
+  pub tree : Expression
+  pub steps_of_tree : steps ≡ postfix tree
