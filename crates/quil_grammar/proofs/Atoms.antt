@@ -12,8 +12,8 @@ use Rattle.quil_grammar.specs.declared.class.Class.TheVariants as class
 use Rattle.quil_grammar.specs.Sort.{is_sort, sorts, number_of, sort_is_listed}
 use Rattle.quil_grammar.specs.Token.{Token}
 use Rattle.quil_grammar.specs.Grammar.{quil, tables, accepts, index, whole_of, value_behind, Primary}
-use Rattle.quil_grammar.specs.Grammar.Mark.{Stands, Region, Index}
-use Rattle.quil_grammar.specs.Written.{marks_of_atom}
+use Rattle.quil_grammar.specs.Grammar.Event.{Stands, Region, Index}
+use Rattle.quil_grammar.specs.Written.{events_of_atom}
 use Rattle.quil_grammar.specs.Frames.{is_next, StopsFor}
 use Rattle.quil_grammar.specs.declared.stop.Stop.{Stop}
 use Rattle.quil_grammar.specs.declared.stop.Stop.TheVariants as stop
@@ -83,19 +83,19 @@ number_at refs t us a =
     ]
 
 -- the same of the parts that the reader made
-pub number_read : (refs : Bool) (us vs : List Token) (t : Token) (p : Place) (x : List ℕ) → us ≡ t ∷ vs → accepts class.Number t.sort ≡ true → p ≡ t.place → x ≡ t.text → Advances quil tables (Rule (Primary refs)) us vs (marks_of_atom p (atom.Number x))
+pub number_read : (refs : Bool) (us vs : List Token) (t : Token) (p : Place) (x : List ℕ) → us ≡ t ∷ vs → accepts class.Number t.sort ≡ true → p ≡ t.place → x ≡ t.text → Advances quil tables (Rule (Primary refs)) us vs (events_of_atom p (atom.Number x))
 number_read refs us vs t p x e a f g = rw (e, f, g) (number_at refs t vs a)
 
-pub imaginary_read : (refs : Bool) (us vs : List Token) (t : Token) (p : Place) (x : List ℕ) → us ≡ t ∷ vs → accepts class.Imaginary t.sort ≡ true → p ≡ t.place → x ≡ t.text → Advances quil tables (Rule (Primary refs)) us vs (marks_of_atom p (atom.Imaginary x))
+pub imaginary_read : (refs : Bool) (us vs : List Token) (t : Token) (p : Place) (x : List ℕ) → us ≡ t ∷ vs → accepts class.Imaginary t.sort ≡ true → p ≡ t.place → x ≡ t.text → Advances quil tables (Rule (Primary refs)) us vs (events_of_atom p (atom.Imaginary x))
 imaginary_read refs us vs t p x e a f g = rw (e, f, g) (imaginary_at refs t vs (same_sort t.sort sort.Imaginary a))
 
-pub pi_read : (refs : Bool) (us vs : List Token) (t : Token) (p : Place) → us ≡ t ∷ vs → accepts class.Pi t.sort ≡ true → p ≡ t.place → Advances quil tables (Rule (Primary refs)) us vs (marks_of_atom p atom.Pi)
+pub pi_read : (refs : Bool) (us vs : List Token) (t : Token) (p : Place) → us ≡ t ∷ vs → accepts class.Pi t.sort ≡ true → p ≡ t.place → Advances quil tables (Rule (Primary refs)) us vs (events_of_atom p atom.Pi)
 pi_read refs us vs t p e a f = rw (e, f) (pi_at refs t vs (same_sort t.sort sort.Pi a))
 
-pub i_read : (refs : Bool) (us vs : List Token) (t : Token) (p : Place) → us ≡ t ∷ vs → accepts class.I t.sort ≡ true → p ≡ t.place → Advances quil tables (Rule (Primary refs)) us vs (marks_of_atom p atom.I)
+pub i_read : (refs : Bool) (us vs : List Token) (t : Token) (p : Place) → us ≡ t ∷ vs → accepts class.I t.sort ≡ true → p ≡ t.place → Advances quil tables (Rule (Primary refs)) us vs (events_of_atom p atom.I)
 i_read refs us vs t p e a f = rw (e, f) (i_at refs t vs (same_sort t.sort sort.I a))
 
-pub parameter_read : (refs : Bool) (us vs : List Token) (t : Token) (p : Place) (n : ℕ) → us ≡ t ∷ vs → accepts class.Parameter t.sort ≡ true → p ≡ t.place → n ≡ t.number → Advances quil tables (Rule (Primary refs)) us vs (marks_of_atom p (atom.Parameter n))
+pub parameter_read : (refs : Bool) (us vs : List Token) (t : Token) (p : Place) (n : ℕ) → us ≡ t ∷ vs → accepts class.Parameter t.sort ≡ true → p ≡ t.place → n ≡ t.number → Advances quil tables (Rule (Primary refs)) us vs (events_of_atom p (atom.Parameter n))
 parameter_read refs us vs t p n e a f g = rw (e, f, g) (parameter_at refs t vs (same_sort t.sort sort.Parameter a))
 
 -- a cell is read where its index is
@@ -117,7 +117,7 @@ refs_taken true true e = (refl, refl)
 refs_taken true false e = absurd (cc)
 refs_taken false refs e = absurd (cc)
 
-pub cell_read : (refs : Bool) (us vs ws : List Token) (t : Token) (p : Place) (x : List ℕ) (w : Whole) → us ≡ t ∷ vs → accepts (class.Region refs) t.sort ≡ true → p ≡ t.place → x ≡ t.text → Advances quil tables index vs ws (Index w ∷ []) → Advances quil tables (Rule (Primary refs)) us ws (marks_of_atom p (atom.Cell (record { region = x; index = w })))
+pub cell_read : (refs : Bool) (us vs ws : List Token) (t : Token) (p : Place) (x : List ℕ) (w : Whole) → us ≡ t ∷ vs → accepts (class.Region refs) t.sort ≡ true → p ≡ t.place → x ≡ t.text → Advances quil tables index vs ws (Index w ∷ []) → Advances quil tables (Rule (Primary refs)) us ws (events_of_atom p (atom.Cell (record { region = x; index = w })))
 cell_read refs us vs ws t p x w e a f g h =
     let both = refs_taken (is_sort t.sort sort.Name) refs a in
     rw (e, f, g, both.1) (subst (λ s. Advances quil tables (Rule (Primary true)) (token s t.text t.place t.number ∷ vs) ws (Region t.place t.text ∷ Index w ∷ [])) (sym (same_sort t.sort sort.Name both.0)) (cell_stands t.text t.place t.number vs ws w h))

@@ -16,10 +16,10 @@ use Rattle.quil_grammar.specs.declared.class.Class.TheVariants as class
 use Rattle.quil_grammar.specs.declared.reader.Todo.{Todo}
 use Rattle.quil_grammar.specs.declared.reader.Todo.TheVariants as todo
 use Rattle.quil_grammar.specs.Token.{Token}
-use Rattle.quil_grammar.specs.Grammar.{quil, tables, accepts, operator_of, Name, Mark, Sum, Unary, more_terms, more_factors, exponent}
-use Rattle.quil_grammar.specs.Grammar.Mark.{Between, Joined, Opens, Closes}
+use Rattle.quil_grammar.specs.Grammar.{quil, tables, accepts, operator_of, Name, Event, Sum, Unary, more_terms, more_factors, exponent}
+use Rattle.quil_grammar.specs.Grammar.Event.{Between, Joined, Opens, Closes}
 use Rattle.quil_grammar.specs.Grammar.Around.{Signed, Parenthesized, Argument}
-use Rattle.quil_grammar.specs.Written.{Written, Joins, Within, marks, meaning, start}
+use Rattle.quil_grammar.specs.Written.{Written, Joins, Within, events, meaning, start}
 use Rattle.quil_grammar.specs.Frames.{is_next, Frame, MoreTerms, MoreFactors, AnExponent, Operand, Rest, shapes, shape_of, held, held_behind, kept, kept_behind, todos, todo_of, Wants, Holds}
 
 -- the frame that is to be read so, with the first operand that it may hold
@@ -58,7 +58,7 @@ record Opened (refs : Bool) (ts us : List Token) (k : List Todo) (next : Todo) (
   is_next_todo : next ≡ todo_of (frame_of next first)
   is_kept : ss ≡ kept_behind (kept frames) (frame_of next first) ++ postfix (meaning operand)
   is_begin : begin ≡ start operand
-  goes_on : GoesOn quil tables (Rule (Sum refs) ∷ []) ts [] (shape_of refs (frame_of next first) ∷ shapes refs frames) us (held_behind (held frames) (frame_of next first) ++ marks operand)
+  goes_on : GoesOn quil tables (Rule (Sum refs) ∷ []) ts [] (shape_of refs (frame_of next first) ∷ shapes refs frames) us (held_behind (held frames) (frame_of next first) ++ events operand)
 
 -- lists with one more at the end
 last_two : {A : Type 0} (xs ys : List A) (x y : A) → xs ++ x ∷ [] ≡ ys ++ y ∷ [] → (xs ≡ ys) × (x ≡ y)
@@ -78,7 +78,7 @@ no_last [] x e = absurd (cc)
 no_last (a ∷ xs) x e = absurd (cc)
 
 open_frames : (refs : Bool) (ts us : List Token) (k : List Todo) (next : Todo) (ss : List Step) (begin : Place) (fs : List Frame) (w : Written)
-    → k ++ next ∷ [] ≡ todos fs → ss ≡ kept fs ++ postfix (meaning w) → begin ≡ start w → GoesOn quil tables (Rule (Sum refs) ∷ []) ts [] (shapes refs fs) us (held fs ++ marks w)
+    → k ++ next ∷ [] ≡ todos fs → ss ≡ kept fs ++ postfix (meaning w) → begin ≡ start w → GoesOn quil tables (Rule (Sum refs) ∷ []) ts [] (shapes refs fs) us (held fs ++ events w)
     → Opened refs ts us k next ss begin
 open_frames refs ts us k next ss begin [] w e f g h = absurd (no_last k next e)
 open_frames refs ts us k next ss begin (a ∷ fs) w e f g h =
@@ -92,46 +92,46 @@ open_frames refs ts us k next ss begin (a ∷ fs) w e f g h =
       is_next_todo = both.1 ∙ ap todo_of same;
       is_kept = subst (λ x. ss ≡ kept_behind (kept fs) x ++ postfix (meaning w)) same f;
       is_begin = g;
-      goes_on = subst (λ x. GoesOn quil tables (Rule (Sum refs) ∷ []) ts [] (shape_of refs x ∷ shapes refs fs) us (held_behind (held fs) x ++ marks w)) same h;
+      goes_on = subst (λ x. GoesOn quil tables (Rule (Sum refs) ∷ []) ts [] (shape_of refs x ∷ shapes refs fs) us (held_behind (held fs) x ++ events w)) same h;
     }
 
 opened : (refs : Bool) (ts us : List Token) (k : List Todo) (next : Todo) (ss : List Step) (begin : Place) → Holds refs ts us (k ++ next ∷ []) ss begin → Opened refs ts us k next ss begin
 opened refs ts us k next ss begin h = open_frames refs ts us k next ss begin h.frames h.operand h.is_to_do h.is_kept h.is_begin h.goes_on
 
 -- nothing more is to be read of a sum, a product or a power
-no_terms : (refs : Bool) (us : List Token) (os : List Mark) (k : List (Shape Class Mark Name)) → is_next class.Additive us ≡ false → GoesOn quil tables (more_terms refs ∷ k) us os k us os
+no_terms : (refs : Bool) (us : List Token) (os : List Event) (k : List (Shape Class Event Name)) → is_next class.Additive us ≡ false → GoesOn quil tables (more_terms refs ∷ k) us os k us os
 unfolding quil tables
 no_terms refs [] os k e = goes_past (many_ends refl)
 no_terms refs (t ∷ us) os k e = goes_past (many_ends (rw e refl))
 
-no_factors : (refs : Bool) (us : List Token) (os : List Mark) (k : List (Shape Class Mark Name)) → is_next class.Multiplicative us ≡ false → GoesOn quil tables (more_factors refs ∷ k) us os k us os
+no_factors : (refs : Bool) (us : List Token) (os : List Event) (k : List (Shape Class Event Name)) → is_next class.Multiplicative us ≡ false → GoesOn quil tables (more_factors refs ∷ k) us os k us os
 unfolding quil tables
 no_factors refs [] os k e = goes_past (many_ends refl)
 no_factors refs (t ∷ us) os k e = goes_past (many_ends (rw e refl))
 
-no_exponent : (refs : Bool) (us : List Token) (os : List Mark) (k : List (Shape Class Mark Name)) → is_next class.Caret us ≡ false → GoesOn quil tables (exponent refs ∷ k) us os k us os
+no_exponent : (refs : Bool) (us : List Token) (os : List Event) (k : List (Shape Class Event Name)) → is_next class.Caret us ≡ false → GoesOn quil tables (exponent refs ∷ k) us os k us os
 unfolding quil tables
 no_exponent refs [] os k e = goes_then (goes_second refl) (goes_past empty_advances)
 no_exponent refs (t ∷ us) os k e = goes_then (goes_second (rw e refl)) (goes_past empty_advances)
 
 -- an operator is read, and its second operand is to be read
-a_term : (refs : Bool) (t : Token) (ts us : List Token) (os : List Mark) (k : List (Shape Class Mark Name)) → ts ≡ t ∷ us → accepts class.Additive t.sort ≡ true
+a_term : (refs : Bool) (t : Token) (ts us : List Token) (os : List Event) (k : List (Shape Class Event Name)) → ts ≡ t ∷ us → accepts class.Additive t.sort ≡ true
     → GoesOn quil tables (more_terms refs ∷ k) ts os (Rule (Unary refs) ∷ more_factors refs ∷ Emit Joined ∷ more_terms refs ∷ k) us (os ++ Between (operator_of t.sort) ∷ [])
 unfolding quil tables
 a_term refs t ts us os k e a = rw e (goes_then (goes_more (rw a refl)) (goes_then goes_seq (goes_then (goes_next (token_advances a refl)) (goes_then goes_seq (goes_then goes_rule goes_seq)))))
 
-a_factor : (refs : Bool) (t : Token) (ts us : List Token) (os : List Mark) (k : List (Shape Class Mark Name)) → ts ≡ t ∷ us → accepts class.Multiplicative t.sort ≡ true
+a_factor : (refs : Bool) (t : Token) (ts us : List Token) (os : List Event) (k : List (Shape Class Event Name)) → ts ≡ t ∷ us → accepts class.Multiplicative t.sort ≡ true
     → GoesOn quil tables (more_factors refs ∷ k) ts os (Rule (Unary refs) ∷ Emit Joined ∷ more_factors refs ∷ k) us (os ++ Between (operator_of t.sort) ∷ [])
 unfolding quil tables
 a_factor refs t ts us os k e a = rw e (goes_then (goes_more (rw a refl)) (goes_then goes_seq (goes_then (goes_next (token_advances a refl)) goes_seq)))
 
-an_exponent : (refs : Bool) (t : Token) (ts us : List Token) (os : List Mark) (k : List (Shape Class Mark Name)) → ts ≡ t ∷ us → accepts class.Caret t.sort ≡ true
+an_exponent : (refs : Bool) (t : Token) (ts us : List Token) (os : List Event) (k : List (Shape Class Event Name)) → ts ≡ t ∷ us → accepts class.Caret t.sort ≡ true
     → GoesOn quil tables (exponent refs ∷ k) ts os (Rule (Unary refs) ∷ Emit Joined ∷ k) us (os ++ Between (operator_of t.sort) ∷ [])
 unfolding quil tables
 an_exponent refs t ts us os k e a = rw e (goes_then (goes_first (rw a refl)) (goes_then goes_seq (goes_then (goes_next (token_advances a refl)) goes_seq)))
 
 -- a parenthesis ends
-ends : (t : Token) (ts us : List Token) (os : List Mark) (k : List (Shape Class Mark Name)) → ts ≡ t ∷ us → accepts class.ParenthesisEnds t.sort ≡ true
+ends : (t : Token) (ts us : List Token) (os : List Event) (k : List (Shape Class Event Name)) → ts ≡ t ∷ us → accepts class.ParenthesisEnds t.sort ≡ true
     → GoesOn quil tables (Seq (One class.ParenthesisEnds) (Emit Closes) ∷ k) ts os k us (os ++ Closes ∷ [])
 unfolding quil tables
 ends t ts us os k e a = rw e (goes_then goes_seq (goes_then (goes_past (token_advances a refl)) (goes_next emit_advances)))
@@ -142,14 +142,14 @@ no_end [] e = seq_halts_first end_halts
 no_end (t ∷ us) e = seq_halts_first (token_halts e)
 
 -- what is made of two operands, and of what stands round one
-joined_marks : (os : List Mark) (o : Operator) (a b : Written) → (((os ++ marks a) ++ Between o ∷ []) ++ marks b) ++ Joined ∷ [] ≡ os ++ marks (Joins o a b)
-joined_marks os o a b = simp (append_assoc)
+joined_events : (os : List Event) (o : Operator) (a b : Written) → (((os ++ events a) ++ Between o ∷ []) ++ events b) ++ Joined ∷ [] ≡ os ++ events (Joins o a b)
+joined_events os o a b = simp (append_assoc)
 
 applied_steps : (ks xs ys : List Step) (s : Step) → ((ks ++ xs) ++ ys) ++ s ∷ [] ≡ ks ++ (xs ++ (ys ++ s ∷ []))
 applied_steps ks xs ys s = simp (append_assoc)
 
-closed_marks : (os ms : List Mark) (o : Mark) → ((os ++ o ∷ []) ++ ms) ++ Closes ∷ [] ≡ os ++ (o ∷ (ms ++ Closes ∷ []))
-closed_marks os ms o = simp (append_assoc)
+closed_events : (os ms : List Event) (o : Event) → ((os ++ o ∷ []) ++ ms) ++ Closes ∷ [] ≡ os ++ (o ∷ (ms ++ Closes ∷ []))
+closed_events os ms o = simp (append_assoc)
 
 -- the exits of the reader
 pub terms_end : (refs same : Bool) (ts us vs : List Token) (k k' : List Todo) (ss ss' : List Step) (p q : Place)
@@ -163,7 +163,7 @@ terms_end refs same ts us vs k k' ss ss' p q h n e f g i j =
       is_to_do = o.is_to_do;
       is_kept = o.is_kept;
       is_begin = o.is_begin;
-      goes_on = goes_then o.goes_on (no_terms refs us (held o.frames ++ marks o.operand) (shapes refs o.frames) n);
+      goes_on = goes_then o.goes_on (no_terms refs us (held o.frames ++ events o.operand) (shapes refs o.frames) n);
     })
 
 pub factors_end : (refs same : Bool) (ts us vs : List Token) (k k' : List Todo) (ss ss' : List Step) (p q : Place)
@@ -177,7 +177,7 @@ factors_end refs same ts us vs k k' ss ss' p q h n e f g i j =
       is_to_do = o.is_to_do;
       is_kept = o.is_kept;
       is_begin = o.is_begin;
-      goes_on = goes_then o.goes_on (no_factors refs us (held o.frames ++ marks o.operand) (shapes refs o.frames) n);
+      goes_on = goes_then o.goes_on (no_factors refs us (held o.frames ++ events o.operand) (shapes refs o.frames) n);
     })
 
 pub exponent_ends : (refs same : Bool) (ts us vs : List Token) (k k' : List Todo) (ss ss' : List Step) (p q : Place)
@@ -191,7 +191,7 @@ exponent_ends refs same ts us vs k k' ss ss' p q h n e f g i j =
       is_to_do = o.is_to_do;
       is_kept = o.is_kept;
       is_begin = o.is_begin;
-      goes_on = goes_then o.goes_on (no_exponent refs us (held o.frames ++ marks o.operand) (shapes refs o.frames) n);
+      goes_on = goes_then o.goes_on (no_exponent refs us (held o.frames ++ events o.operand) (shapes refs o.frames) n);
     })
 
 pub terms_go_on : (refs same : Bool) (ts us vs : List Token) (t : Token) (k k' : List Todo) (ss ss' : List Step) (p q : Place) (op : Operator)
@@ -204,7 +204,7 @@ terms_go_on refs same ts us vs t k k' ss ss' p q op h e a f g i j l =
       frames = MoreFactors ∷ Operand (operator_of t.sort) o.operand ∷ MoreTerms ∷ o.frames;
       is_to_do = ap (λ x. ((x ++ todo.Terms ∷ []) ++ todo.Operand (operator_of t.sort) p ∷ []) ++ todo.Factors ∷ []) o.is_to_do ∙ ap (λ b. ((todos o.frames ++ todo.Terms ∷ []) ++ todo.Operand (operator_of t.sort) b ∷ []) ++ todo.Factors ∷ []) o.is_begin;
       is_kept = o.is_kept;
-      goes_on = goes_then o.goes_on (a_term refs t us vs (held o.frames ++ marks o.operand) (shapes refs o.frames) e a);
+      goes_on = goes_then o.goes_on (a_term refs t us vs (held o.frames ++ events o.operand) (shapes refs o.frames) e a);
     })
 
 pub factors_go_on : (refs same : Bool) (ts us vs : List Token) (t : Token) (k k' : List Todo) (ss ss' : List Step) (p q : Place) (op : Operator)
@@ -217,7 +217,7 @@ factors_go_on refs same ts us vs t k k' ss ss' p q op h e a f g i j l =
       frames = Operand (operator_of t.sort) o.operand ∷ MoreFactors ∷ o.frames;
       is_to_do = ap (λ x. (x ++ todo.Factors ∷ []) ++ todo.Operand (operator_of t.sort) p ∷ []) o.is_to_do ∙ ap (λ b. (todos o.frames ++ todo.Factors ∷ []) ++ todo.Operand (operator_of t.sort) b ∷ []) o.is_begin;
       is_kept = o.is_kept;
-      goes_on = goes_then o.goes_on (a_factor refs t us vs (held o.frames ++ marks o.operand) (shapes refs o.frames) e a);
+      goes_on = goes_then o.goes_on (a_factor refs t us vs (held o.frames ++ events o.operand) (shapes refs o.frames) e a);
     })
 
 pub exponent_goes_on : (refs same : Bool) (ts us vs : List Token) (t : Token) (k k' : List Todo) (ss ss' : List Step) (p q : Place) (op : Operator)
@@ -230,7 +230,7 @@ exponent_goes_on refs same ts us vs t k k' ss ss' p q op h e a f g i j l =
       frames = Operand (operator_of t.sort) o.operand ∷ o.frames;
       is_to_do = ap (λ x. x ++ todo.Operand (operator_of t.sort) p ∷ []) o.is_to_do ∙ ap (λ b. todos o.frames ++ todo.Operand (operator_of t.sort) b ∷ []) o.is_begin;
       is_kept = o.is_kept;
-      goes_on = goes_then o.goes_on (an_exponent refs t us vs (held o.frames ++ marks o.operand) (shapes refs o.frames) e a);
+      goes_on = goes_then o.goes_on (an_exponent refs t us vs (held o.frames ++ events o.operand) (shapes refs o.frames) e a);
     })
 
 -- the place that an operator keeps is that of its first operand
@@ -251,7 +251,7 @@ joins refs same ts us vs k k' ss ss' p q r op h e f g i j =
       is_kept = ap (λ xs. xs ++ record { place = q; action = action.Apply op } ∷ []) o.is_kept ∙ applied_steps (kept o.frames) (postfix (meaning o.first)) (postfix (meaning o.operand)) (record { place = q; action = action.Apply op })
           ∙ ap (λ b. kept o.frames ++ (postfix (meaning o.first) ++ (postfix (meaning o.operand) ++ record { place = b; action = action.Apply op } ∷ []))) begin;
       is_begin = begin;
-      goes_on = subst (λ xs. GoesOn quil tables (Rule (Sum refs) ∷ []) ts [] (shapes refs o.frames) us xs) (joined_marks (held o.frames) op o.first o.operand) (goes_then o.goes_on (goes_next emit_advances));
+      goes_on = subst (λ xs. GoesOn quil tables (Rule (Sum refs) ∷ []) ts [] (shapes refs o.frames) us xs) (joined_events (held o.frames) op o.first o.operand) (goes_then o.goes_on (goes_next emit_advances));
     })
 
 pub signs : (refs same : Bool) (ts us vs : List Token) (k k' : List Todo) (ss ss' : List Step) (p q r : Place) (s : Sign)
@@ -265,7 +265,7 @@ signs refs same ts us vs k k' ss ss' p q r s h e f g i j =
       is_to_do = o.is_to_do;
       is_kept = ap (λ xs. xs ++ record { place = q; action = action.Sign s } ∷ []) o.is_kept ∙ append_assoc (kept o.frames) (postfix (meaning o.operand)) (record { place = q; action = action.Sign s } ∷ []);
       is_begin = refl;
-      goes_on = subst (λ xs. GoesOn quil tables (Rule (Sum refs) ∷ []) ts [] (shapes refs o.frames) us xs) (closed_marks (held o.frames) (marks o.operand) (Opens (Signed q s))) (goes_then o.goes_on (goes_next emit_advances));
+      goes_on = subst (λ xs. GoesOn quil tables (Rule (Sum refs) ∷ []) ts [] (shapes refs o.frames) us xs) (closed_events (held o.frames) (events o.operand) (Opens (Signed q s))) (goes_then o.goes_on (goes_next emit_advances));
     })
 
 pub parenthesis_ends : (refs same : Bool) (ts us vs : List Token) (t : Token) (k k' : List Todo) (ss ss' : List Step) (p q r : Place)
@@ -279,7 +279,7 @@ parenthesis_ends refs same ts us vs t k k' ss ss' p q r h e a f g i j =
       is_to_do = o.is_to_do;
       is_kept = o.is_kept;
       is_begin = refl;
-      goes_on = subst (λ xs. GoesOn quil tables (Rule (Sum refs) ∷ []) ts [] (shapes refs o.frames) vs xs) (closed_marks (held o.frames) (marks o.operand) (Opens (Parenthesized q))) (goes_then o.goes_on (ends t us vs ((held o.frames ++ Opens (Parenthesized q) ∷ []) ++ marks o.operand) (shapes refs o.frames) e a));
+      goes_on = subst (λ xs. GoesOn quil tables (Rule (Sum refs) ∷ []) ts [] (shapes refs o.frames) vs xs) (closed_events (held o.frames) (events o.operand) (Opens (Parenthesized q))) (goes_then o.goes_on (ends t us vs ((held o.frames ++ Opens (Parenthesized q) ∷ []) ++ events o.operand) (shapes refs o.frames) e a));
     })
 
 pub argument_ends : (refs same : Bool) (ts us vs : List Token) (t : Token) (k k' : List Todo) (ss ss' : List Step) (p q r : Place) (f : Function)
@@ -293,7 +293,7 @@ argument_ends refs same ts us vs t k k' ss ss' p q r c h e a f g i j =
       is_to_do = o.is_to_do;
       is_kept = ap (λ xs. xs ++ record { place = q; action = action.Call c } ∷ []) o.is_kept ∙ append_assoc (kept o.frames) (postfix (meaning o.operand)) (record { place = q; action = action.Call c } ∷ []);
       is_begin = refl;
-      goes_on = subst (λ xs. GoesOn quil tables (Rule (Sum refs) ∷ []) ts [] (shapes refs o.frames) vs xs) (closed_marks (held o.frames) (marks o.operand) (Opens (Argument q c))) (goes_then o.goes_on (ends t us vs ((held o.frames ++ Opens (Argument q c) ∷ []) ++ marks o.operand) (shapes refs o.frames) e a));
+      goes_on = subst (λ xs. GoesOn quil tables (Rule (Sum refs) ∷ []) ts [] (shapes refs o.frames) vs xs) (closed_events (held o.frames) (events o.operand) (Opens (Argument q c))) (goes_then o.goes_on (ends t us vs ((held o.frames ++ Opens (Argument q c) ∷ []) ++ events o.operand) (shapes refs o.frames) e a));
     })
 
 pub no_parenthesis : (refs same : Bool) (ts us vs : List Token) (k : List Todo) (ss : List Step) (p q : Place)

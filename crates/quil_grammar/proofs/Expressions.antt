@@ -15,7 +15,7 @@ use Rattle.quil_grammar.specs.declared.reader.Todo.TheVariants as todo
 use Rattle.quil_grammar.specs.declared.stop.Stop.{Stop}
 use Rattle.quil_grammar.specs.Token.{Token}
 use Rattle.quil_grammar.specs.Grammar.{quil, tables, Sum, Unary}
-use Rattle.quil_grammar.specs.Written.{Written, marks, meaning}
+use Rattle.quil_grammar.specs.Written.{Written, events, meaning}
 use Rattle.quil_grammar.specs.Frames.{Frame, MoreTerms, MoreFactors, shapes, held, kept, todos, todo_of, Wants, Holds, IsRead, StopsFor, GoesToStand}
 
 begun : (refs : Bool) (ts : List Token) → GoesOn quil tables (Rule (Sum refs) ∷ []) ts [] (Rule (Unary refs) ∷ shapes refs (MoreFactors ∷ MoreTerms ∷ [])) ts []
@@ -31,7 +31,7 @@ no_last [] x e = absurd (cc)
 no_last (a ∷ xs) x e = absurd (cc)
 
 end_frames : (refs : Bool) (ts us : List Token) (ss : List Step) (fs : List Frame) (w : Written)
-    → [] ≡ todos fs → ss ≡ kept fs ++ postfix (meaning w) → GoesOn quil tables (Rule (Sum refs) ∷ []) ts [] (shapes refs fs) us (held fs ++ marks w) → IsRead refs ts us ss
+    → [] ≡ todos fs → ss ≡ kept fs ++ postfix (meaning w) → GoesOn quil tables (Rule (Sum refs) ∷ []) ts [] (shapes refs fs) us (held fs ++ events w) → IsRead refs ts us ss
 end_frames refs ts us ss [] w e f g = record { written = w; advances = goes_to_end g; is_meaning = f }
 end_frames refs ts us ss (a ∷ fs) w e f g = absurd (no_last (todos fs) (todo_of a) e)
 

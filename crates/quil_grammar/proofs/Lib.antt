@@ -8,3 +8,4 @@ pub mod Expressions
 pub mod Writings
 pub mod Verdicts
 pub mod Only
+pub mod Wholes

@@ -19,10 +19,10 @@ use Rattle.quil_grammar.specs.declared.reader.Todo.TheVariants as todo
 use Rattle.quil_grammar.specs.declared.stop.Stop.{Stop}
 use Rattle.quil_grammar.specs.declared.stop.Stop.TheVariants as stop
 use Rattle.quil_grammar.specs.Token.{Token}
-use Rattle.quil_grammar.specs.Grammar.{quil, tables, accepts, sign_of, function_of, Name, Mark, Sum, Unary, Power, Primary, more_terms, more_factors, exponent, parenthesized, signed}
-use Rattle.quil_grammar.specs.Grammar.Mark.{Opens, Closes}
+use Rattle.quil_grammar.specs.Grammar.{quil, tables, accepts, sign_of, function_of, Name, Event, Sum, Unary, Power, Primary, more_terms, more_factors, exponent, parenthesized, signed}
+use Rattle.quil_grammar.specs.Grammar.Event.{Opens, Closes}
 use Rattle.quil_grammar.specs.Grammar.Around.{Signed, Parenthesized, Argument}
-use Rattle.quil_grammar.specs.Written.{Alone, marks_of_atom}
+use Rattle.quil_grammar.specs.Written.{Alone, events_of_atom}
 use Rattle.quil_grammar.specs.Frames.{is_next, MoreTerms, MoreFactors, AnExponent, Rest, shapes, held, todos, Wants, Holds, StopsFor, GoesToStand}
 use Rattle.quil_grammar.specs.declared.reader.Reader.{Reader}
 use Rattle.std.specs.Prelude.{Result, Err}
@@ -36,36 +36,36 @@ or_second true b e = refl
 or_second false b e = e
 
 -- a sign is read, and an operand is still to be read
-sign_goes : (refs : Bool) (t : Token) (us : List Token) (os : List Mark) (k : List (Shape Class Mark Name)) → accepts class.Sign t.sort ≡ true
+sign_goes : (refs : Bool) (t : Token) (us : List Token) (os : List Event) (k : List (Shape Class Event Name)) → accepts class.Sign t.sort ≡ true
     → GoesOn quil tables (Rule (Unary refs) ∷ k) (t ∷ us) os (Rule (Unary refs) ∷ Emit Closes ∷ k) us (os ++ Opens (Signed t.place (sign_of t.sort)) ∷ [])
 unfolding quil tables
 sign_goes refs t us os k a = goes_then goes_rule (goes_then (goes_first (rw a refl)) (goes_then goes_seq (goes_then (goes_next (token_advances a refl)) goes_seq)))
 
 -- where no sign stands, a primary and then an exponent are to be read
-to_primary : (refs : Bool) (us : List Token) (os : List Mark) (k : List (Shape Class Mark Name)) → is_next class.Sign us ≡ false → GoesOn quil tables (Rule (Unary refs) ∷ k) us os (Rule (Primary refs) ∷ exponent refs ∷ k) us os
+to_primary : (refs : Bool) (us : List Token) (os : List Event) (k : List (Shape Class Event Name)) → is_next class.Sign us ≡ false → GoesOn quil tables (Rule (Unary refs) ∷ k) us os (Rule (Primary refs) ∷ exponent refs ∷ k) us os
 unfolding quil tables
 to_primary refs [] os k e = goes_then goes_rule (goes_then (goes_second refl) (goes_then goes_rule goes_seq))
 to_primary refs (t ∷ us) os k e = goes_then goes_rule (goes_then (goes_second (or_second (starts quil tables (Rule (Power refs)) (t ∷ us)) (is_barred quil tables (signed refs) (t ∷ us)) (rw e refl))) (goes_then goes_rule goes_seq))
 
 -- a sum in parentheses begins with an operand
-begins_sum : (refs : Bool) (us : List Token) (os : List Mark) (k : List (Shape Class Mark Name))
+begins_sum : (refs : Bool) (us : List Token) (os : List Event) (k : List (Shape Class Event Name))
     → GoesOn quil tables (parenthesized refs ∷ k) us os (Rule (Unary refs) ∷ more_factors refs ∷ more_terms refs ∷ Seq (One class.ParenthesisEnds) (Emit Closes) ∷ k) us os
 unfolding quil
 begins_sum refs us os k = goes_then goes_seq (goes_then goes_rule (goes_then goes_seq (goes_then goes_rule goes_seq)))
 
-parenthesis_stands : (refs : Bool) (x : List ℕ) (p : Place) (n : ℕ) (us : List Token) (os : List Mark) (k : List (Shape Class Mark Name))
+parenthesis_stands : (refs : Bool) (x : List ℕ) (p : Place) (n : ℕ) (us : List Token) (os : List Event) (k : List (Shape Class Event Name))
     → GoesOn quil tables (Rule (Primary refs) ∷ k) (token sort.LeftParenthesis x p n ∷ us) os (parenthesized refs ∷ k) us (os ++ Opens (Parenthesized p) ∷ [])
 unfolding quil tables
 parenthesis_stands refs x p n us os k =
     goes_then goes_rule (goes_then (goes_second refl) (goes_then (goes_second refl) (goes_then (goes_second refl) (goes_then (goes_second refl) (goes_then (goes_second refl) (goes_then (goes_second refl) (goes_then (goes_second refl)
     (goes_then goes_seq (goes_next (token_advances refl refl))))))))))
 
-parenthesis_goes : (refs : Bool) (t : Token) (us : List Token) (os : List Mark) (k : List (Shape Class Mark Name)) → t.sort ≡ sort.LeftParenthesis
+parenthesis_goes : (refs : Bool) (t : Token) (us : List Token) (os : List Event) (k : List (Shape Class Event Name)) → t.sort ≡ sort.LeftParenthesis
     → GoesOn quil tables (Rule (Primary refs) ∷ k) (t ∷ us) os (parenthesized refs ∷ k) us (os ++ Opens (Parenthesized t.place) ∷ [])
 parenthesis_goes refs t us os k e = subst (λ s. GoesOn quil tables (Rule (Primary refs) ∷ k) (token s t.text t.place t.number ∷ us) os (parenthesized refs ∷ k) us (os ++ Opens (Parenthesized t.place) ∷ [])) (sym e) (parenthesis_stands refs t.text t.place t.number us os k)
 
 -- a function goes on to its argument
-function_stands : (refs : Bool) (s : Sort) (x : List ℕ) (p : Place) (n : ℕ) (us : List Token) (os : List Mark) (k : List (Shape Class Mark Name)) → accepts class.Function s ≡ true
+function_stands : (refs : Bool) (s : Sort) (x : List ℕ) (p : Place) (n : ℕ) (us : List Token) (os : List Event) (k : List (Shape Class Event Name)) → accepts class.Function s ≡ true
     → GoesOn quil tables (Rule (Primary refs) ∷ k) (token s x p n ∷ us) os (Seq (One class.ArgumentBegins) (parenthesized refs) ∷ k) us (os ++ Opens (Argument p (function_of s)) ∷ [])
 unfolding quil tables
 function_stands refs sort.Name x p n us os k e = absurd (cc)
@@ -107,11 +107,11 @@ function_stands refs sort.Caret x p n us os k e = absurd (cc)
 function_stands refs sort.Semicolon x p n us os k e = absurd (cc)
 function_stands refs sort.Bad x p n us os k e = absurd (cc)
 
-function_goes : (refs : Bool) (t : Token) (us : List Token) (os : List Mark) (k : List (Shape Class Mark Name)) → accepts class.Function t.sort ≡ true
+function_goes : (refs : Bool) (t : Token) (us : List Token) (os : List Event) (k : List (Shape Class Event Name)) → accepts class.Function t.sort ≡ true
     → GoesOn quil tables (Rule (Primary refs) ∷ k) (t ∷ us) os (Seq (One class.ArgumentBegins) (parenthesized refs) ∷ k) us (os ++ Opens (Argument t.place (function_of t.sort)) ∷ [])
 function_goes refs t us os k e = function_stands refs t.sort t.text t.place t.number us os k e
 
-argument_goes : (refs : Bool) (t : Token) (us : List Token) (os : List Mark) (k : List (Shape Class Mark Name)) → accepts class.ArgumentBegins t.sort ≡ true
+argument_goes : (refs : Bool) (t : Token) (us : List Token) (os : List Event) (k : List (Shape Class Event Name)) → accepts class.ArgumentBegins t.sort ≡ true
     → GoesOn quil tables (Seq (One class.ArgumentBegins) (parenthesized refs) ∷ k) (t ∷ us) os (parenthesized refs ∷ k) us os
 unfolding quil tables
 argument_goes refs t us os k e = goes_then goes_seq (goes_past (token_advances e refl))
@@ -122,7 +122,7 @@ no_argument refs [] e = seq_halts_first end_halts
 no_argument refs (t ∷ us) e = seq_halts_first (token_halts e)
 
 -- a stop in what is read next stops the expression
-pub stops_in : (e : Stop) (refs : Bool) (ts us vs : List Token) (a : Shape Class Mark Name) (k : List (Shape Class Mark Name)) (os : List Mark)
+pub stops_in : (e : Stop) (refs : Bool) (ts us vs : List Token) (a : Shape Class Event Name) (k : List (Shape Class Event Name)) (os : List Event)
     → GoesOn quil tables (Rule (Sum refs) ∷ []) ts [] (a ∷ k) us os → StopsFor e a us vs → StopsFor e (Rule (Sum refs)) ts vs
 stops_in stop.Unexpected refs ts us vs a k os g h = goes_to_stop (stops_behind g (stops_here h))
 stops_in stop.TooLarge refs ts us vs a k os g h = goes_to_large (exceeds_behind g (exceeds_here h))
@@ -145,7 +145,7 @@ wants_sign refs same ts us vs t k k' ss ss' p s h e a f g i j l =
       goes_on = goes_then h.goes_on (rw e (sign_goes refs t vs (held h.frames) (shapes refs h.frames) a));
     })
 
-begun : (refs : Bool) (us vs : List Token) (os ps : List Mark) (k : List (Shape Class Mark Name)) → is_next class.Sign us ≡ false
+begun : (refs : Bool) (us vs : List Token) (os ps : List Event) (k : List (Shape Class Event Name)) → is_next class.Sign us ≡ false
     → GoesOn quil tables (Rule (Primary refs) ∷ exponent refs ∷ k) us os (parenthesized refs ∷ exponent refs ∷ k) vs ps
     → GoesOn quil tables (Rule (Unary refs) ∷ k) us os (Rule (Unary refs) ∷ more_factors refs ∷ more_terms refs ∷ Seq (One class.ParenthesisEnds) (Emit Closes) ∷ exponent refs ∷ k) vs ps
 begun refs us vs os ps k n g = goes_then (to_primary refs us os k n) (goes_then g (begins_sum refs vs ps (exponent refs ∷ k)))
@@ -191,7 +191,7 @@ stops_at_atom refs inner same ts us vs ws k ss e h n s i v j =
     rw j (stops_in e refs ts us ws (Rule (Primary refs)) (exponent refs ∷ shapes refs h.frames) (held h.frames) (goes_then h.goes_on (to_primary refs us (held h.frames) (shapes refs h.frames) n)) atom)
 
 pub holds_atom : (refs inner same : Bool) (ts us vs ws xs : List Token) (k k' : List Todo) (ss ss' : List Step) (p q : Place) (a : Atom)
-    → Wants refs ts us k ss → is_next class.Sign us ≡ false → Advances quil tables (Rule (Primary inner)) vs ws (marks_of_atom p a) → inner ≡ refs → vs ≡ us → xs ≡ ws
+    → Wants refs ts us k ss → is_next class.Sign us ≡ false → Advances quil tables (Rule (Primary inner)) vs ws (events_of_atom p a) → inner ≡ refs → vs ≡ us → xs ≡ ws
     → k' ≡ k ++ todo.Exponent ∷ [] → ss' ≡ ss ++ record { place = p; action = action.Push a } ∷ [] → q ≡ p → same ≡ refs → Holds same ts xs k' ss' q
 holds_atom refs inner same ts us vs ws xs k k' ss ss' p q a h n r e v w i l m j =
     let atom = rw (e, v) at r in

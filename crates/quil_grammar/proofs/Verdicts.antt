@@ -20,8 +20,8 @@ use Rattle.quil_grammar.specs.Sort.{is_sort}
 use Rattle.quil_grammar.specs.declared.stop.Stop.{Stop}
 use Rattle.quil_grammar.specs.declared.stop.Stop.TheVariants as stop
 use Rattle.quil_grammar.specs.Token.{Token, tokens_among, end_of}
-use Rattle.quil_grammar.specs.Grammar.{quil, tables, Sum, Mark}
-use Rattle.quil_grammar.specs.Written.{marks, meaning}
+use Rattle.quil_grammar.specs.Grammar.{quil, tables, Sum, Event}
+use Rattle.quil_grammar.specs.Written.{events, meaning}
 use Rattle.quil_grammar.specs.Frames.{IsRead, StopsFor}
 use Rattle.quil_grammar.specs.Answer.{IsExpressionOf, IsRefusal, IsFault, Gives, fault_of, bad_or_unexpected, most_bytes}
 use Rattle.quil_grammar.specs.Told.{IsFound, IsTold, Tells}
@@ -48,14 +48,14 @@ module _ (text : List ℕ) (spans : List Span) (ts us : List Token) (same : ts �
   found : (steps : List Step) → IsRead true ts us steps → true ≡ (length us == 0) → IsFound text spans steps
   found steps r e =
       let none : us ≡ [] = nil_from_length us (eqb-true (length us) 0 (sym e)) in
-      let all : Advances quil tables (Rule (Sum true)) ts [] (marks r.written) = subst (λ xs. Advances quil tables (Rule (Sum true)) ts xs (marks r.written)) none r.advances in
+      let all : Advances quil tables (Rule (Sum true)) ts [] (events r.written) = subst (λ xs. Advances quil tables (Rule (Sum true)) ts xs (events r.written)) none r.advances in
       record {
         written = r.written;
-        only = subst (λ xs. IsOnlyVerdict quil (Rule (Sum true)) xs (Read (marks r.written))) same (verdict_only quil tables (Rule (Sum true)) (decided true) ts (Made (marks r.written) []) all);
+        only = subst (λ xs. IsOnlyVerdict quil (Rule (Sum true)) xs (Read (events r.written))) same (verdict_only quil tables (Rule (Sum true)) (decided true) ts (Made (events r.written) []) all);
         is_meaning = r.is_meaning;
       }
 
-  left : (vs : List Token) (os : List Mark) → Advances quil tables (Rule (Sum true)) ts vs os → false ≡ (length vs == 0) → IsOnlyVerdict quil (Rule (Sum true)) ts (Refused vs)
+  left : (vs : List Token) (os : List Event) → Advances quil tables (Rule (Sum true)) ts vs os → false ≡ (length vs == 0) → IsOnlyVerdict quil (Rule (Sum true)) ts (Refused vs)
   left [] os r e = absurd (cc)
   left (t ∷ vs) os r e = verdict_only quil tables (Rule (Sum true)) (decided true) ts (Made os (t ∷ vs)) r
 
@@ -67,7 +67,7 @@ bad_not_long : (b : Bool) (p : Place) (n : ℕ) → bad_or_unexpected b p ≡ fa
 bad_not_long true p n e = absurd (cc)
 bad_not_long false p n e = absurd (cc)
 
-not_too_long : (p : Place) (v : Verdict Mark Token) (n : ℕ) → fault_of p v ≡ Some (fault.TextTooLong n) → ⊥
+not_too_long : (p : Place) (v : Verdict Event Token) (n : ℕ) → fault_of p v ≡ Some (fault.TextTooLong n) → ⊥
 not_too_long p (Read os) n e = absurd (cc)
 not_too_long p (Refused []) n e = absurd (cc)
 not_too_long p (Refused (t ∷ ts)) n e = bad_not_long (is_sort t.sort sort.Bad) t.place n (cc)
@@ -88,7 +88,7 @@ module _ (text : List ℕ) (spans : List Span) (ts us : List Token) (end : Place
 
   pub tells_left : (steps : List Step) (f : ReadFault) → IsRead true ts us steps → false ≡ (length us == 0) → fault_of end (Refused us) ≡ Some f → Tells text (Err f)
   tells_left steps f r e is_fault =
-      told f (refused text spans ts us same f (subst (λ p. fault_of p (Refused us) ≡ Some f) is_end is_fault) (left text spans ts us same us (marks r.written) r.advances e))
+      told f (refused text spans ts us same f (subst (λ p. fault_of p (Refused us) ≡ Some f) is_end is_fault) (left text spans ts us same us (events r.written) r.advances e))
 
   pub tells_unexpected : (f : ReadFault) (e : Stop) → e ≡ stop.Unexpected → StopsFor e (Rule (Sum true)) ts us → fault_of end (Refused us) ≡ Some f → Tells text (Err f)
   tells_unexpected f stop.OutOfMemory same_stop h is_fault = absurd (cc)
@@ -106,16 +106,16 @@ module _ (text : List ℕ) (spans : List Span) (ts us : List Token) (end : Place
 module _ (text : List ℕ) (spans : List Span) (is_reading : IsReading text spans) (only_reading : (other : List Span) → IsReading text other → spans ≡ other) where
   same_steps : (ss steps : List Step) → IsFound text spans ss → IsExpressionOf text steps → ss ≡ steps
   same_steps ss steps h x =
-      let whole : IsVerdict quil (Rule (Sum true)) (tokens_among [] spans) (Read (marks x.written)) = subst (λ ys. IsVerdict quil (Rule (Sum true)) (tokens_among [] ys) (Read (marks x.written))) (sym (only_reading x.spans x.is_reading)) x.is_whole in
-      let read : Read (marks x.written) ≡ Read (marks h.written) = h.only.is_only (Read (marks x.written)) whole in
+      let whole : IsVerdict quil (Rule (Sum true)) (tokens_among [] spans) (Read (events x.written)) = subst (λ ys. IsVerdict quil (Rule (Sum true)) (tokens_among [] ys) (Read (events x.written))) (sym (only_reading x.spans x.is_reading)) x.is_whole in
+      let read : Read (events x.written) ≡ Read (events h.written) = h.only.is_only (Read (events x.written)) whole in
       let same : x.written ≡ h.written = same_written x.written h.written (cc) in
       h.is_meaning ∙ ap (λ w. postfix (meaning w)) (sym same) ∙ sym x.is_meaning
 
   no_steps : (f : ReadFault) (steps : List Step) → IsTold text spans f → IsExpressionOf text steps → ⊥
   no_steps f steps h x =
-      let whole : IsVerdict quil (Rule (Sum true)) (tokens_among [] spans) (Read (marks x.written)) = subst (λ ys. IsVerdict quil (Rule (Sum true)) (tokens_among [] ys) (Read (marks x.written))) (sym (only_reading x.spans x.is_reading)) x.is_whole in
-      let read : Read (marks x.written) ≡ h.verdict = h.only.is_only (Read (marks x.written)) whole in
-      let none : fault_of (end_of spans) (Read (marks x.written)) ≡ Some f = subst (λ v. fault_of (end_of spans) v ≡ Some f) (sym read) h.is_fault in
+      let whole : IsVerdict quil (Rule (Sum true)) (tokens_among [] spans) (Read (events x.written)) = subst (λ ys. IsVerdict quil (Rule (Sum true)) (tokens_among [] ys) (Read (events x.written))) (sym (only_reading x.spans x.is_reading)) x.is_whole in
+      let read : Read (events x.written) ≡ h.verdict = h.only.is_only (Read (events x.written)) whole in
+      let none : fault_of (end_of spans) (Read (events x.written)) ≡ Some f = subst (λ v. fault_of (end_of spans) v ≡ Some f) (sym read) h.is_fault in
       absurd (cc)
 
   same_fault : (f g : ReadFault) → IsTold text spans f → IsRefusal text g → f ≡ g
@@ -131,8 +131,8 @@ module _ (text : List ℕ) (spans : List Span) (is_reading : IsReading text span
   no_fault ss g h x =
       let one : spans ≡ x.spans = only_reading x.spans x.is_reading in
       let true_verdict : IsVerdict quil (Rule (Sum true)) (tokens_among [] spans) x.verdict = subst (λ ys. IsVerdict quil (Rule (Sum true)) (tokens_among [] ys) x.verdict) (sym one) x.is_verdict in
-      let verdict : x.verdict ≡ Read (marks h.written) = h.only.is_only x.verdict true_verdict in
-      let none : fault_of (end_of x.spans) (Read (marks h.written)) ≡ Some g = subst (λ v. fault_of (end_of x.spans) v ≡ Some g) verdict x.is_fault in
+      let verdict : x.verdict ≡ Read (events h.written) = h.only.is_only x.verdict true_verdict in
+      let none : fault_of (end_of x.spans) (Read (events h.written)) ≡ Some g = subst (λ v. fault_of (end_of x.spans) v ≡ Some g) verdict x.is_fault in
       absurd (cc)
 
 pub only_found : (text : List ℕ) (r : Result (List Step) ReadFault) (steps : List Step) → Tells text r → IsExpressionOf text steps → Gives r (Ok steps)

@@ -12,8 +12,8 @@ use Rattle.quil_grammar.specs.declared.fault.ReadFault.{ReadFault}
 use Rattle.quil_grammar.specs.declared.fault.ReadFault.TheVariants as fault
 use Rattle.quil_grammar.specs.Sort.{is_sort}
 use Rattle.quil_grammar.specs.Token.{Token, tokens_among, end_of}
-use Rattle.quil_grammar.specs.Grammar.{quil, Sum, Mark}
-use Rattle.quil_grammar.specs.Written.{Written, marks, meaning}
+use Rattle.quil_grammar.specs.Grammar.{quil, Sum, Event}
+use Rattle.quil_grammar.specs.Written.{Written, events, meaning}
 
 -- a text of more bytes is too long
 abbrev pub most_bytes : ℕ
@@ -25,14 +25,14 @@ pub record IsExpressionOf (text : List ℕ) (steps : List Step) : Type 0 where
   pub spans : List Span
   pub is_reading : IsReading text spans
   pub written : Written
-  pub is_whole : IsWhole quil (Rule (Sum true)) (tokens_among [] spans) (marks written)
+  pub is_whole : IsWhole quil (Rule (Sum true)) (tokens_among [] spans) (events written)
   pub is_meaning : steps ≡ postfix (meaning written)
 
 abbrev pub bad_or_unexpected : Bool → Place → ReadFault
 bad_or_unexpected bad p = if bad then fault.BadToken p.line p.column else fault.Unexpected p.line p.column
 
 -- The fault of a refusal at the first of these tokens, or behind the last line, and of a token too large.
-abbrev pub fault_of : Place → Verdict Mark Token → Option ReadFault
+abbrev pub fault_of : Place → Verdict Event Token → Option ReadFault
 fault_of end (Read os) = None
 fault_of end (Refused []) = Some (fault.Unexpected end.line end.column)
 fault_of end (Refused (t ∷ ts)) = Some (bad_or_unexpected (is_sort t.sort sort.Bad) t.place)
@@ -43,7 +43,7 @@ fault_of end (TooLarge (t ∷ ts)) = Some (fault.NumberTooWide t.place.line t.pl
 pub record IsRefusal (text : List ℕ) (f : ReadFault) : Type 0 where
   pub spans : List Span
   pub is_reading : IsReading text spans
-  pub verdict : Verdict Mark Token
+  pub verdict : Verdict Event Token
   pub is_verdict : IsVerdict quil (Rule (Sum true)) (tokens_among [] spans) verdict
   pub is_fault : fault_of (end_of spans) verdict ≡ Some f
 

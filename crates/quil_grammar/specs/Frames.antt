@@ -9,10 +9,10 @@ use Rattle.quil_tree.specs.declared.expr.Operator.{Operator}
 use Rattle.quil_tree.specs.declared.expr.Step.{Step}
 use Rattle.quil_tree.specs.Expression.{postfix}
 use Rattle.quil_grammar.specs.Token.{Token}
-use Rattle.quil_grammar.specs.Grammar.{quil, tables, accepts, Name, Sum, Unary, Mark, Around, more_terms, more_factors, exponent}
+use Rattle.quil_grammar.specs.Grammar.{quil, tables, accepts, Name, Sum, Unary, Event, Around, more_terms, more_factors, exponent}
 use Rattle.quil_grammar.specs.Grammar.Around.{Signed, Parenthesized, Argument}
-use Rattle.quil_grammar.specs.Grammar.Mark.{Between, Joined, Opens, Closes}
-use Rattle.quil_grammar.specs.Written.{Written, marks, meaning, start}
+use Rattle.quil_grammar.specs.Grammar.Event.{Between, Joined, Opens, Closes}
+use Rattle.quil_grammar.specs.Written.{Written, events, meaning, start}
 use Rattle.quil_grammar.specs.declared.class.Class.{Class}
 use Rattle.quil_grammar.specs.declared.class.Class.TheVariants as class
 use Rattle.quil_grammar.specs.declared.reader.Reader.{Reader}
@@ -34,12 +34,12 @@ pub data Frame : Type 0 where
   Rest : Around → Frame
 
 -- the rest of an expression with something round it
-abbrev pub rest_of : Around → Shape Class Mark Name
+abbrev pub rest_of : Around → Shape Class Event Name
 rest_of (Signed p s) = Emit Closes
 rest_of (Parenthesized p) = Seq (One class.ParenthesisEnds) (Emit Closes)
 rest_of (Argument p f) = Seq (One class.ParenthesisEnds) (Emit Closes)
 
-abbrev pub shape_of : Bool → Frame → Shape Class Mark Name
+abbrev pub shape_of : Bool → Frame → Shape Class Event Name
 shape_of refs MoreTerms = more_terms refs
 shape_of refs MoreFactors = more_factors refs
 shape_of refs AnExponent = exponent refs
@@ -59,11 +59,11 @@ todo_of (Operand o a) = todo.Operand o (start a)
 todo_of (Rest m) = around_todo m
 
 -- what was made up to a frame and with it, and the steps of it
-abbrev pub held_behind : List Mark → Frame → List Mark
+abbrev pub held_behind : List Event → Frame → List Event
 held_behind os MoreTerms = os
 held_behind os MoreFactors = os
 held_behind os AnExponent = os
-held_behind os (Operand o a) = (os ++ marks a) ++ Between o ∷ []
+held_behind os (Operand o a) = (os ++ events a) ++ Between o ∷ []
 held_behind os (Rest m) = os ++ Opens m ∷ []
 
 abbrev pub kept_behind : List Step → Frame → List Step
@@ -74,7 +74,7 @@ kept_behind ss (Operand o a) = ss ++ postfix (meaning a)
 kept_behind ss (Rest m) = ss
 
 -- the same of frames, the innermost first
-abbrev pub shapes : Bool → List Frame → List (Shape Class Mark Name)
+abbrev pub shapes : Bool → List Frame → List (Shape Class Event Name)
 shapes refs [] = []
 shapes refs (f ∷ fs) = shape_of refs f ∷ shapes refs fs
 
@@ -82,7 +82,7 @@ abbrev pub todos : List Frame → List Todo
 todos [] = []
 todos (f ∷ fs) = todos fs ++ todo_of f ∷ []
 
-abbrev pub held : List Frame → List Mark
+abbrev pub held : List Frame → List Event
 held [] = []
 held (f ∷ fs) = held_behind (held fs) f
 
@@ -104,7 +104,7 @@ pub record Holds (refs : Bool) (ts us : List Token) (to_do : List Todo) (steps :
   pub is_to_do : to_do ≡ todos frames
   pub is_kept : steps ≡ kept frames ++ postfix (meaning operand)
   pub is_begin : begin ≡ start operand
-  pub goes_on : GoesOn quil tables (Rule (Sum refs) ∷ []) ts [] (shapes refs frames) us (held frames ++ marks operand)
+  pub goes_on : GoesOn quil tables (Rule (Sum refs) ∷ []) ts [] (shapes refs frames) us (held frames ++ events operand)
 
 -- how the reader stands, behind these tokens
 abbrev pub Stands : Bool → List Token → Reader → Type 0
@@ -112,7 +112,7 @@ Stands true ts reader = Wants reader.references ts reader.rest.now reader.todo.i
 Stands false ts reader = Holds reader.references ts reader.rest.now reader.todo.items reader.steps.items reader.start
 
 -- reading the shape stopped before these tokens
-abbrev pub StopsFor : Stop → Shape Class Mark Name → List Token → List Token → Type 0
+abbrev pub StopsFor : Stop → Shape Class Event Name → List Token → List Token → Type 0
 StopsFor stop.Unexpected s ts us = Halts quil tables s ts us
 StopsFor stop.TooLarge s ts us = Exceeds quil tables s ts us
 StopsFor stop.OutOfMemory s ts us = Unit {0}
@@ -125,5 +125,5 @@ GoesToStand ts (Err e) reader = StopsFor e (Rule (Sum reader.references)) ts rea
 -- these are the steps of an expression that is read from the first tokens up to the second
 pub record IsRead (refs : Bool) (ts us : List Token) (steps : List Step) : Type 0 where
   pub written : Written
-  pub advances : Advances quil tables (Rule (Sum refs)) ts us (marks written)
+  pub advances : Advances quil tables (Rule (Sum refs)) ts us (events written)
   pub is_meaning : steps ≡ postfix (meaning written)

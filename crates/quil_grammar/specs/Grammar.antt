@@ -29,14 +29,14 @@ pub data Around : Type 0 where
 
 -- What reading makes: an atom; of a cell its region and then its index; an operator between its operands, which are
 -- joined behind the second; and what is put round an expression, before it and again behind it.
-pub data Mark : Type 0 where
-  Stands : Place → Atom → Mark
-  Region : Place → List ℕ → Mark
-  Index : Whole → Mark
-  Between : Operator → Mark
-  Joined : Mark
-  Opens : Around → Mark
-  Closes : Mark
+pub data Event : Type 0 where
+  Stands : Place → Atom → Event
+  Region : Place → List ℕ → Event
+  Index : Whole → Event
+  Between : Operator → Event
+  Joined : Event
+  Opens : Around → Event
+  Closes : Event
 
 -- rules, each with references to memory or without
 pub data Name : Type 0 where
@@ -81,7 +81,7 @@ abbrev pub whole_of : List ℕ → Whole
 whole_of digits = record { digits = digits; value = value_behind 0 digits }
 
 -- what a token makes
-abbrev pub value_of : Class → Token → List Mark
+abbrev pub value_of : Class → Token → List Event
 value_of class.Number t = Stands t.place (atom.Number t.text) ∷ []
 value_of class.Imaginary t = Stands t.place (atom.Imaginary t.text) ∷ []
 value_of class.Pi t = Stands t.place atom.Pi ∷ []
@@ -106,46 +106,46 @@ is_too_large class.Index t behind = not (nat_lt (value_behind 0 t.text) (2 ^ 64)
 is_too_large _ t behind = false
 
 -- terms behind the first
-abbrev pub more_terms : Bool → Shape Class Mark Name
+abbrev pub more_terms : Bool → Shape Class Event Name
 more_terms refs = Many (Seq (One class.Additive) (Seq (Rule (Product refs)) (Emit Joined)))
 
 -- factors behind the first
-abbrev pub more_factors : Bool → Shape Class Mark Name
+abbrev pub more_factors : Bool → Shape Class Event Name
 more_factors refs = Many (Seq (One class.Multiplicative) (Seq (Rule (Unary refs)) (Emit Joined)))
 
 -- a sign before an expression with no looser operation
-abbrev pub signed : Bool → Shape Class Mark Name
+abbrev pub signed : Bool → Shape Class Event Name
 signed refs = Seq (One class.Sign) (Seq (Rule (Unary refs)) (Emit Closes))
 
 -- an exponent, which may begin with a sign, or nothing
-abbrev pub exponent : Bool → Shape Class Mark Name
+abbrev pub exponent : Bool → Shape Class Event Name
 exponent refs = Or (Seq (One class.Caret) (Seq (Rule (Unary refs)) (Emit Joined))) Empty
 
 -- an index in brackets; without one it is 0
-abbrev pub index : Shape Class Mark Name
+abbrev pub index : Shape Class Event Name
 index = Or (Seq (One class.IndexBegins) (Seq (One class.Index) (One class.IndexEnds))) (Emit (Index (whole_of (48 ∷ []))))
 
 -- a cell of memory
-abbrev pub cell : Bool → Shape Class Mark Name
+abbrev pub cell : Bool → Shape Class Event Name
 cell refs = Seq (One (class.Region refs)) index
 
 -- a sum, and a parenthesis behind it
-abbrev pub parenthesized : Bool → Shape Class Mark Name
+abbrev pub parenthesized : Bool → Shape Class Event Name
 parenthesized refs = Seq (Rule (Sum refs)) (Seq (One class.ParenthesisEnds) (Emit Closes))
 
 -- what stands alone, a function of a sum, or a sum in parentheses
-abbrev pub primary : Bool → Shape Class Mark Name
+abbrev pub primary : Bool → Shape Class Event Name
 primary refs = Or (One class.Number) (Or (One class.Imaginary) (Or (One class.Pi) (Or (One class.I) (Or (One class.Parameter)
     (Or (cell refs) (Or (Seq (One class.Function) (Seq (One class.ArgumentBegins) (parenthesized refs))) (Seq (One class.Parenthesis) (parenthesized refs))))))))
 
-abbrev pub body_of : Name → Shape Class Mark Name
+abbrev pub body_of : Name → Shape Class Event Name
 body_of (Sum refs) = Seq (Rule (Product refs)) (more_terms refs)
 body_of (Product refs) = Seq (Rule (Unary refs)) (more_factors refs)
 body_of (Unary refs) = Or (signed refs) (Rule (Power refs))
 body_of (Power refs) = Seq (Rule (Primary refs)) (exponent refs)
 body_of (Primary refs) = primary refs
 
-unfoldable pub quil : Grammar Class Mark Name Sort Token
+unfoldable pub quil : Grammar Class Event Name Sort Token
 quil = record { kind = λ t. t.sort; accepts = accepts; value = value_of; is_large = is_too_large; body = body_of }
 
 -- all rules

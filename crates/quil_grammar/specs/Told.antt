@@ -9,19 +9,19 @@ use Rattle.quil_tree.specs.Expression.{postfix}
 use Rattle.quil_grammar.specs.declared.fault.ReadFault.{ReadFault}
 use Rattle.quil_grammar.specs.declared.fault.ReadFault.TheVariants as fault
 use Rattle.quil_grammar.specs.Token.{Token, tokens_among, end_of}
-use Rattle.quil_grammar.specs.Grammar.{quil, Sum, Mark}
-use Rattle.quil_grammar.specs.Written.{Written, marks, meaning}
+use Rattle.quil_grammar.specs.Grammar.{quil, Sum, Event}
+use Rattle.quil_grammar.specs.Written.{Written, events, meaning}
 use Rattle.quil_grammar.specs.Answer.{fault_of}
 
 -- the steps are those of the only reading
 pub record IsFound (text : List ℕ) (spans : List Span) (steps : List Step) : Type 0 where
   pub written : Written
-  pub only : IsOnlyVerdict quil (Rule (Sum true)) (tokens_among [] spans) (Read (marks written))
+  pub only : IsOnlyVerdict quil (Rule (Sum true)) (tokens_among [] spans) (Read (events written))
   pub is_meaning : steps ≡ postfix (meaning written)
 
 -- the fault is that of the only verdict
 pub record IsTold (text : List ℕ) (spans : List Span) (f : ReadFault) : Type 0 where
-  pub verdict : Verdict Mark Token
+  pub verdict : Verdict Event Token
   pub only : IsOnlyVerdict quil (Rule (Sum true)) (tokens_among [] spans) verdict
   pub is_fault : fault_of (end_of spans) verdict ≡ Some f
 

@@ -6,9 +6,9 @@ use Rattle.quil_tree.specs.declared.expr.Atom.TheVariants as atom
 use Rattle.quil_tree.specs.declared.expr.Operator.{Operator}
 use Rattle.quil_tree.specs.Expression.{Expression}
 use Rattle.quil_tree.specs.Expression.Expression.{Leaf, Signed as SignedTree, Applied, Called}
-use Rattle.quil_grammar.specs.Grammar.{Around, Mark}
+use Rattle.quil_grammar.specs.Grammar.{Around, Event}
 use Rattle.quil_grammar.specs.Grammar.Around.{Signed, Parenthesized, Argument}
-use Rattle.quil_grammar.specs.Grammar.Mark.{Stands, Region, Index, Between, Joined, Opens, Closes}
+use Rattle.quil_grammar.specs.Grammar.Event.{Stands, Region, Index, Between, Joined, Opens, Closes}
 
 -- an atom, two expressions and an operator between them, or an expression and what stands round it
 pub data Written : Type 0 where
@@ -17,19 +17,19 @@ pub data Written : Type 0 where
   Within : Around → Written → Written
 
 -- what reading an atom makes
-abbrev pub marks_of_atom : Place → Atom → List Mark
-marks_of_atom p (atom.Cell address) = Region p address.region ∷ Index address.index ∷ []
-marks_of_atom p (atom.Number text) = Stands p (atom.Number text) ∷ []
-marks_of_atom p (atom.Imaginary text) = Stands p (atom.Imaginary text) ∷ []
-marks_of_atom p atom.Pi = Stands p atom.Pi ∷ []
-marks_of_atom p atom.I = Stands p atom.I ∷ []
-marks_of_atom p (atom.Parameter number) = Stands p (atom.Parameter number) ∷ []
+abbrev pub events_of_atom : Place → Atom → List Event
+events_of_atom p (atom.Cell address) = Region p address.region ∷ Index address.index ∷ []
+events_of_atom p (atom.Number text) = Stands p (atom.Number text) ∷ []
+events_of_atom p (atom.Imaginary text) = Stands p (atom.Imaginary text) ∷ []
+events_of_atom p atom.Pi = Stands p atom.Pi ∷ []
+events_of_atom p atom.I = Stands p atom.I ∷ []
+events_of_atom p (atom.Parameter number) = Stands p (atom.Parameter number) ∷ []
 
 -- what reading it makes
-abbrev pub marks : Written → List Mark
-marks (Alone p a) = marks_of_atom p a
-marks (Joins o a b) = marks a ++ (Between o ∷ (marks b ++ Joined ∷ []))
-marks (Within m a) = Opens m ∷ (marks a ++ Closes ∷ [])
+abbrev pub events : Written → List Event
+events (Alone p a) = events_of_atom p a
+events (Joins o a b) = events a ++ (Between o ∷ (events b ++ Joined ∷ []))
+events (Within m a) = Opens m ∷ (events a ++ Closes ∷ [])
 
 abbrev pub place_of : Around → Place
 place_of (Signed p s) = p

@@ -12,12 +12,12 @@ mod parse;
 mod reader;
 mod sort;
 mod stop;
+mod token;
+mod tokens;
 mod value;
-mod word;
-mod words;
 
 pub use fault::ReadFault;
-pub use laws::{one_expression, one_token_decides, one_writing};
+pub use laws::{expression_or_fault, one_expression, one_token_decides, one_writing};
 pub use parse::parse_expr;
 pub use sort::Sort;
 

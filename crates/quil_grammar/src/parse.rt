@@ -11,8 +11,8 @@ use crate::fault::ReadFault;
 use crate::reader::expression;
 use crate::sort::Sort;
 use crate::stop::Stop;
-use crate::word::Word;
-use crate::words::{end_of, words_of};
+use crate::token::Token;
+use crate::tokens::{end_of, tokens_of};
 use quil_lex::tokens_to_bad_byte;
 use quil_tree::{Expr, Place};
 use std::alloc::Global;
@@ -20,26 +20,26 @@ use std::alloc::Global;
 /// A text has at most so many bytes.
 const MOST_BYTES: usize = 1_048_576;
 
-// The fault where no front goes on with the first of these words, or where none is left.
-fn refusal(rest: &[Word<'_>], end: Place) -> ReadFault
+// The fault where no front goes on with the first of these tokens, or where none is left.
+fn refusal(rest: &[Token<'_>], end: Place) -> ReadFault
     ensures { fault_of end (Refused rest.now) ≡ Some result }
 {
-    let Some(word) = rest.first() else {
+    let Some(token) = rest.first() else {
         return ReadFault::Unexpected {
             line: end.line,
             column: end.column,
         };
     };
-    let Place { line, column } = word.place();
-    if word.sort().is(Sort::Bad) {
+    let Place { line, column } = token.place();
+    if token.sort().is(Sort::Bad) {
         ReadFault::BadToken { line, column }
     } else {
         ReadFault::Unexpected { line, column }
     }
 }
 
-// The fault where the first of these words is too large.
-fn too_wide(rest: &[Word<'_>], end: Place) -> ReadFault
+// The fault where the first of these tokens is too large.
+fn too_wide(rest: &[Token<'_>], end: Place) -> ReadFault
     requires { 0 < length rest.now }
     ensures { fault_of end (TooLarge rest.now) ≡ Some result }
 {
@@ -52,10 +52,10 @@ fn read(alloc: Global, text: &[u8]) -> Result<Expr, ReadFault>
     requires { length text.now ≤ most_bytes }
     ensures { Tells text.now result }
 {
-    let tokens = tokens_to_bad_byte(alloc, text)?;
-    let words = words_of(alloc, &tokens)?;
-    let end = end_of(&tokens);
-    let (found, rest) = expression(alloc, &words, true);
+    let lexemes = tokens_to_bad_byte(alloc, text)?;
+    let tokens = tokens_of(alloc, &lexemes)?;
+    let end = end_of(&lexemes);
+    let (found, rest) = expression(alloc, &tokens, true);
     match found {
         Ok(expr) => {
             if rest.is_empty() {

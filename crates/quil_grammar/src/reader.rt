@@ -5,16 +5,16 @@ ghost use Rattle.quil_shape.specs.Shape.Shape.{Rule};
 ghost use Rattle.quil_shape.specs.Reads.{Advances};
 ghost use Rattle.quil_grammar.specs.Token.{Token};
 ghost use Rattle.quil_grammar.specs.Grammar.{quil, tables, accepts, sign_of, operator_of, function_of, Sum, Primary, index};
-ghost use Rattle.quil_grammar.specs.Grammar.Mark.{Index};
-ghost use Rattle.quil_grammar.specs.Written.{marks_of_atom};
+ghost use Rattle.quil_grammar.specs.Grammar.Event.{Index};
+ghost use Rattle.quil_grammar.specs.Written.{events_of_atom};
 ghost use Rattle.quil_grammar.specs.Frames.{is_next, Stands, GoesToStand, StopsFor, Holds, IsRead};
 ghost use Rattle.quil_grammar.specs.declared.class.Class.{Class};
 
 use crate::class::Class;
 use crate::sort::Sort;
 use crate::stop::Stop;
+use crate::token::Token;
 use crate::value::value_of;
-use crate::word::Word;
 use quil_tree::{Action, Address, Atom, Expr, Function, Operator, Place, Sign, Step, Text, Whole};
 use std::alloc::Global;
 
@@ -40,7 +40,7 @@ pub(crate) enum Todo {
 /// A reader of an expression.
 #[derive(Drop)]
 pub(crate) struct Reader<'a, 'b> {
-    pub(crate) rest: &'b [Word<'a>],
+    pub(crate) rest: &'b [Token<'a>],
     // Whether a cell of memory may stand in the expression.
     pub(crate) references: bool,
     // The steps so far.
@@ -96,13 +96,13 @@ fn function_of(sort: Sort) -> Function
 impl<'a, 'b> Reader<'a, 'b> {
     // The next token, where it may stand in the place.
     #[tactic(auto, unfolding(crate::specs::Grammar::quil))]
-    fn next(&self, class: Class) -> Option<&'b Word<'a>>
-        ensures some { IfSome result (λ word. (self.now.rest.now ≡ word.now ∷ drop 1 self.now.rest.now) × IsTrue (accepts class word.now.sort)) }
+    fn next(&self, class: Class) -> Option<&'b Token<'a>>
+        ensures some { IfSome result (λ token. (self.now.rest.now ≡ token.now ∷ drop 1 self.now.rest.now) × IsTrue (accepts class token.now.sort)) }
         ensures none { IfNone result (IsFalse (is_next class self.now.rest.now)) }
     {
-        let word = self.rest.first()?;
-        if class.accepts(word.sort()) {
-            Some(word)
+        let token = self.rest.first()?;
+        if class.accepts(token.sort()) {
+            Some(token)
         } else {
             None
         }
@@ -121,17 +121,17 @@ impl<'a, 'b> Reader<'a, 'b> {
     }
 
     // Takes the next token, where it may stand in the place.
-    fn take(&mut self, class: Class) -> Option<&'b Word<'a>>
-        ensures some { IfSome result (λ word. (self.old.rest.now ≡ word.now ∷ self.new.rest.now) × IsTrue (accepts class word.now.sort)) }
+    fn take(&mut self, class: Class) -> Option<&'b Token<'a>>
+        ensures some { IfSome result (λ token. (self.old.rest.now ≡ token.now ∷ self.new.rest.now) × IsTrue (accepts class token.now.sort)) }
         ensures none { IfNone result (IsFalse (is_next class self.old.rest.now) × (self.new.rest.now ≡ self.old.rest.now)) }
         ensures references { self.new.references ≡ self.old.references }
         ensures steps { self.new.steps ≡ self.old.steps }
         ensures todo { self.new.todo ≡ self.old.todo }
         ensures start { self.new.start ≡ self.old.start }
     {
-        let word = self.next(class)?;
+        let token = self.next(class)?;
         self.skip();
-        Some(word)
+        Some(token)
     }
 
     // Reads the index of a cell, in brackets, or none, which is 0.
@@ -149,14 +149,14 @@ impl<'a, 'b> Reader<'a, 'b> {
             let digits = Text::new(alloc, b"0")?;
             return Ok(Whole { digits, value: 0 });
         };
-        let Some(word) = self.next(Class::Index) else {
+        let Some(token) = self.next(Class::Index) else {
             return Err(Stop::Unexpected);
         };
-        let Some(value) = value_of(word.text()) else {
+        let Some(value) = value_of(token.text()) else {
             return Err(Stop::TooLarge);
         };
         self.skip();
-        let digits = Text::new(alloc, word.text())?;
+        let digits = Text::new(alloc, token.text())?;
         let Some(_) = self.take(Class::IndexEnds) else {
             return Err(Stop::Unexpected);
         };
@@ -168,7 +168,7 @@ impl<'a, 'b> Reader<'a, 'b> {
     fn atom(&mut self, alloc: Global) -> Result<(Place, Atom), Stop>
         requires no_function { IsFalse (is_next Class.Function self.old.rest.now) }
         requires no_parenthesis { IsFalse (is_next Class.Parenthesis self.old.rest.now) }
-        ensures ok { IfOk result (λ found. Advances quil tables (Rule (Primary self.old.references)) self.old.rest.now self.new.rest.now (marks_of_atom found.0 found.1)) }
+        ensures ok { IfOk result (λ found. Advances quil tables (Rule (Primary self.old.references)) self.old.rest.now self.new.rest.now (events_of_atom found.0 found.1)) }
         ensures err { IfErr result (λ e. StopsFor e (Rule (Primary self.old.references)) self.old.rest.now self.new.rest.now) }
         ensures shorter { OnOk result (length self.new.rest.now < length self.old.rest.now) }
         ensures references { self.new.references ≡ self.old.references }
@@ -176,27 +176,27 @@ impl<'a, 'b> Reader<'a, 'b> {
         ensures todo { self.new.todo ≡ self.old.todo }
         ensures start { self.new.start ≡ self.old.start }
     {
-        if let Some(word) = self.take(Class::Number) {
-            let text = Text::new(alloc, word.text())?;
-            return Ok((word.place(), Atom::Number(text)));
+        if let Some(token) = self.take(Class::Number) {
+            let text = Text::new(alloc, token.text())?;
+            return Ok((token.place(), Atom::Number(text)));
         }
-        if let Some(word) = self.take(Class::Imaginary) {
-            let text = Text::new(alloc, word.text())?;
-            return Ok((word.place(), Atom::Imaginary(text)));
+        if let Some(token) = self.take(Class::Imaginary) {
+            let text = Text::new(alloc, token.text())?;
+            return Ok((token.place(), Atom::Imaginary(text)));
         }
-        if let Some(word) = self.take(Class::Pi) {
-            return Ok((word.place(), Atom::Pi));
+        if let Some(token) = self.take(Class::Pi) {
+            return Ok((token.place(), Atom::Pi));
         }
-        if let Some(word) = self.take(Class::I) {
-            return Ok((word.place(), Atom::I));
+        if let Some(token) = self.take(Class::I) {
+            return Ok((token.place(), Atom::I));
         }
-        if let Some(word) = self.take(Class::Parameter) {
-            return Ok((word.place(), Atom::Parameter(word.number())));
+        if let Some(token) = self.take(Class::Parameter) {
+            return Ok((token.place(), Atom::Parameter(token.number())));
         }
-        if let Some(word) = self.take(Class::Region(self.references)) {
-            let region = Text::new(alloc, word.text())?;
+        if let Some(token) = self.take(Class::Region(self.references)) {
+            let region = Text::new(alloc, token.text())?;
             let index = self.index(alloc)?;
-            return Ok((word.place(), Atom::Cell(Address { region, index })));
+            return Ok((token.place(), Atom::Cell(Address { region, index })));
         }
         Err(Stop::Unexpected)
     }
@@ -237,21 +237,21 @@ impl<'a, 'b> Reader<'a, 'b> {
         ensures references { self.new.references ≡ self.old.references }
         ensures smaller { OnOk result (length self.new.todo.items + 8 * length self.new.rest.now < length self.old.todo.items + 8 * length self.old.rest.now) }
     {
-        if let Some(word) = self.take(Class::Sign) {
-            let sign = sign_of(word.sort());
-            self.todo.push(Todo::Signed(word.place(), sign))?;
+        if let Some(token) = self.take(Class::Sign) {
+            let sign = sign_of(token.sort());
+            self.todo.push(Todo::Signed(token.place(), sign))?;
             return Ok(true);
         }
-        if let Some(word) = self.take(Class::Parenthesis) {
-            self.begin(Todo::Parenthesized(word.place()))?;
+        if let Some(token) = self.take(Class::Parenthesis) {
+            self.begin(Todo::Parenthesized(token.place()))?;
             return Ok(true);
         }
-        if let Some(word) = self.take(Class::Function) {
-            let function = function_of(word.sort());
+        if let Some(token) = self.take(Class::Function) {
+            let function = function_of(token.sort());
             let Some(_) = self.take(Class::ArgumentBegins) else {
                 return Err(Stop::Unexpected);
             };
-            self.begin(Todo::Argument(word.place(), function))?;
+            self.begin(Todo::Argument(token.place(), function))?;
             return Ok(true);
         }
         let (place, atom) = self.atom(alloc)?;
@@ -269,29 +269,29 @@ impl<'a, 'b> Reader<'a, 'b> {
     {
         match todo {
             Todo::Terms => {
-                let Some(word) = self.take(Class::Additive) else {
+                let Some(token) = self.take(Class::Additive) else {
                     return Ok(false);
                 };
-                let operator = operator_of(word.sort());
+                let operator = operator_of(token.sort());
                 self.todo.push(Todo::Terms)?;
                 self.todo.push(Todo::Operand(operator, self.start))?;
                 self.todo.push(Todo::Factors)?;
                 Ok(true)
             }
             Todo::Factors => {
-                let Some(word) = self.take(Class::Multiplicative) else {
+                let Some(token) = self.take(Class::Multiplicative) else {
                     return Ok(false);
                 };
-                let operator = operator_of(word.sort());
+                let operator = operator_of(token.sort());
                 self.todo.push(Todo::Factors)?;
                 self.todo.push(Todo::Operand(operator, self.start))?;
                 Ok(true)
             }
             Todo::Exponent => {
-                let Some(word) = self.take(Class::Caret) else {
+                let Some(token) = self.take(Class::Caret) else {
                     return Ok(false);
                 };
-                let operator = operator_of(word.sort());
+                let operator = operator_of(token.sort());
                 self.todo.push(Todo::Operand(operator, self.start))?;
                 Ok(true)
             }
@@ -344,18 +344,18 @@ impl<'a, 'b> Reader<'a, 'b> {
     }
 }
 
-/// Reads an expression from the front of the words, and tells what stands behind it, or where reading stopped.
+/// Reads an expression from the front of the tokens, and tells what stands behind it, or where reading stopped.
 pub(crate) fn expression<'a, 'b>(
     alloc: Global,
-    words: &'b [Word<'a>],
+    tokens: &'b [Token<'a>],
     references: bool,
-) -> (Result<Expr, Stop>, &'b [Word<'a>])
-    ensures ok { IfOk result.0 (λ e. IsRead references words.entry.now result.1.now e) }
-    ensures err { IfErr result.0 (λ e. StopsFor e (Rule (Sum references)) words.entry.now result.1.now) }
+) -> (Result<Expr, Stop>, &'b [Token<'a>])
+    ensures ok { IfOk result.0 (λ e. IsRead references tokens.entry.now result.1.now e) }
+    ensures err { IfErr result.0 (λ e. StopsFor e (Rule (Sum references)) tokens.entry.now result.1.now) }
     ensures large { result.0 ≡ Err Stop.TooLarge → 0 < length result.1.now }
 {
     let mut reader = Reader {
-        rest: words,
+        rest: tokens,
         references,
         steps: Vec::new(alloc),
         todo: Vec::new(alloc),

@@ -5,3 +5,4 @@ pub mod Readings
 pub mod LineEnds
 pub mod Slices
 pub mod Apart
+pub mod Total

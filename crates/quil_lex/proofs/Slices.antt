@@ -13,7 +13,7 @@ use Rattle.quil_lex.proofs.Fronts.{bool_cases}
 use Rattle.quil_lex.proofs.Numbers.{digits_some}
 
 -- a token has a byte
-token_size : (k : Kind) (t : List ℕ) → IsToken k t → 0 < length t
+pub token_size : (k : Kind) (t : List ℕ) → IsToken k t → 0 < length t
 token_size k (b ∷ t) h = omega arith
 token_size Name [] h = absurd (cc)
 token_size Whole [] h = absurd (cc)

@@ -16,7 +16,7 @@ mod segment;
 mod token;
 
 pub use fault::LexFault;
-pub use read::{tokens, tokens_to_bad_byte};
+pub use read::{each_text_is_read, tokens, tokens_to_bad_byte};
 pub use scan::tokens_stand_apart;
 pub use segment::{End, Segment, Tokens};
 pub use token::{Kind, Mark, Token};

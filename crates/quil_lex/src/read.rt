@@ -1,6 +1,6 @@
 //! The segments of a text, each read from a place on.
 
-ghost use Rattle.std.specs.Prelude.{◌≡◌, ◌+◌, ◌-◌, ◌<◌, ◌≤◌, ◌^◌, List, length, map, take, drop, IfOk, IfErr};
+ghost use Rattle.std.specs.Prelude.{◌≡◌, ℕ, ◌+◌, ◌-◌, ◌<◌, ◌≤◌, ◌^◌, List, length, map, take, drop, IfOk, IfErr};
 ghost use Rattle.quil_lex.specs.Line.{end_len, first_line, other_lines, is_blank, begins_blank};
 ghost use Rattle.quil_lex.specs.Reading.{Span, lexeme_of, spans_of, Reads, line_at, IsReading, Answers, IsRefusal, first_bad, lexemes_of, AreSlices};
 ghost use Rattle.quil_lex.specs.Cursor.{place_of, Continues};
@@ -187,3 +187,9 @@ pub fn tokens(alloc: Global, text: &[u8]) -> Result<Tokens<'_>, LexFault>
         None => Ok(tokens),
     }
 }
+
+/// Each text is read, to its end or to its first bad byte.
+#[tactic(auto, using(crate::proofs::Total::each_text))]
+pub fn each_text_is_read()
+    ensures { (text : List ℕ) → ((spans : List Span) × IsReading text spans) }
+{}

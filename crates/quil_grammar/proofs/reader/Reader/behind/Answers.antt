@@ -12,15 +12,15 @@ returns-in_default-take-4-clause-stands c = λ ts h.
 
 pub returns-in_ok-push-in-Terms-3-clause-stands : goal.returns-in_ok-push-in-Terms-3-clause-stands
 returns-in_ok-push-in-Terms-3-clause-stands c = λ ts h.
-    terms_go_on c.args.self.now.references _ ts c.args.self.now.rest.now _ c.in-Some.word.now c.args.self.now.todo.items _ c.args.self.now.steps.items _ c.args.self.now.start c.take.new.self.start c.operator_of-operator.result (rw c.in-Terms.is at h) c.in-Some.ensures.some.0 c.in-Some.ensures.some.1 (search rules) (search rules) (search rules) (search rules) (search rules)
+    terms_go_on c.args.self.now.references _ ts c.args.self.now.rest.now _ c.in-Some.token.now c.args.self.now.todo.items _ c.args.self.now.steps.items _ c.args.self.now.start c.take.new.self.start c.operator_of-operator.result (rw c.in-Terms.is at h) c.in-Some.ensures.some.0 c.in-Some.ensures.some.1 (search rules) (search rules) (search rules) (search rules) (search rules)
 
 pub returns-in_ok-push-in-Factors-2-clause-stands : goal.returns-in_ok-push-in-Factors-2-clause-stands
 returns-in_ok-push-in-Factors-2-clause-stands c = λ ts h.
-    factors_go_on c.args.self.now.references _ ts c.args.self.now.rest.now _ c.in-Some-take.word.now c.args.self.now.todo.items _ c.args.self.now.steps.items _ c.args.self.now.start c.take-in-Factors.new.self.start c.operator_of-operator-in-Factors.result (rw c.in-Factors.is at h) c.in-Some-take.ensures.some.0 c.in-Some-take.ensures.some.1 (search rules) (search rules) (search rules) (search rules) (search rules)
+    factors_go_on c.args.self.now.references _ ts c.args.self.now.rest.now _ c.in-Some-take.token.now c.args.self.now.todo.items _ c.args.self.now.steps.items _ c.args.self.now.start c.take-in-Factors.new.self.start c.operator_of-operator-in-Factors.result (rw c.in-Factors.is at h) c.in-Some-take.ensures.some.0 c.in-Some-take.ensures.some.1 (search rules) (search rules) (search rules) (search rules) (search rules)
 
 pub returns-in_ok-push-in-Exponent-clause-stands : goal.returns-in_ok-push-in-Exponent-clause-stands
 returns-in_ok-push-in-Exponent-clause-stands c = λ ts h.
-    exponent_goes_on c.args.self.now.references _ ts c.args.self.now.rest.now _ c.in-Some-take-2.word.now c.args.self.now.todo.items _ c.args.self.now.steps.items _ c.args.self.now.start c.take-in-Exponent.new.self.start c.operator_of-operator-in-Exponent.result (rw c.in-Exponent.is at h) c.in-Some-take-2.ensures.some.0 c.in-Some-take-2.ensures.some.1 (search rules) (search rules) (search rules) (search rules) (search rules)
+    exponent_goes_on c.args.self.now.references _ ts c.args.self.now.rest.now _ c.in-Some-take-2.token.now c.args.self.now.todo.items _ c.args.self.now.steps.items _ c.args.self.now.start c.take-in-Exponent.new.self.start c.operator_of-operator-in-Exponent.result (rw c.in-Exponent.is at h) c.in-Some-take-2.ensures.some.0 c.in-Some-take-2.ensures.some.1 (search rules) (search rules) (search rules) (search rules) (search rules)
 
 pub returns-in_ok-hold-in-Operand-clause-stands : goal.returns-in_ok-hold-in-Operand-clause-stands
 returns-in_ok-hold-in-Operand-clause-stands c = λ ts h.

@@ -8,7 +8,7 @@ returns-in_default-take-3-clause-stands c = λ ts h.
     let no_parenthesis = c.in_default-take.ensures.none in
     let name = c.in-Some-take-2.ensures.some in
     let none = c.in_default-take-3.ensures.none in
-    stops_at_argument c.args.self.now.references _ ts c.args.self.now.rest.now c.take-3.new.self.rest.now c.take-in-Some-take-2.new.self.rest.now c.in-Some-take-2.word.now c.args.self.now.todo.items c.args.self.now.steps.items
+    stops_at_argument c.args.self.now.references _ ts c.args.self.now.rest.now c.take-3.new.self.rest.now c.take-in-Some-take-2.new.self.rest.now c.in-Some-take-2.token.now c.args.self.now.todo.items c.args.self.now.steps.items
     h no_sign.0 (sym no_sign.1 ∙ sym no_parenthesis.1 ∙ name.0) name.1 none.0 none.1 (search rules)
 
 pub returns-in-Some-take-2-clause-stands : goal.returns-in-Some-take-2-clause-stands
@@ -17,7 +17,7 @@ returns-in-Some-take-2-clause-stands c = λ ts h.
     let no_parenthesis = c.in_default-take.ensures.none in
     let name = c.in-Some-take-2.ensures.some in
     let opening = c.in-Some-take-3.ensures.some in
-    wants_argument c.args.self.now.references _ ts c.args.self.now.rest.now c.take-3.new.self.rest.now _ c.in-Some-take-2.word.now c.in-Some-take-3.field-0.now c.args.self.now.todo.items _ c.args.self.now.steps.items _ c.place-in-Some-take-2.result c.function_of-function.result
+    wants_argument c.args.self.now.references _ ts c.args.self.now.rest.now c.take-3.new.self.rest.now _ c.in-Some-take-2.token.now c.in-Some-take-3.field-0.now c.args.self.now.todo.items _ c.args.self.now.steps.items _ c.place-in-Some-take-2.result c.function_of-function.result
     h no_sign.0 (sym no_sign.1 ∙ sym no_parenthesis.1 ∙ name.0) name.1 (search rules) opening.1 (search rules) (search rules) (search rules) (search rules) (search rules)
 
 pub returns-in_err-place-clause-stands : goal.returns-in_err-place-clause-stands

@@ -9,27 +9,27 @@ use std::marker::Model;
 
 /// A token: its sort, its bytes, its place, and of a parameter its number.
 #[derive(Drop)]
-pub(crate) struct Word<'a> {
+pub(crate) struct Token<'a> {
     sort: Sort,
     text: &'a [u8],
     place: Place,
     number: usize,
 }
 
-impl<'a> Model for Word<'a> {
+impl<'a> Model for Token<'a> {
     ghost use Rattle.quil_grammar.specs.Token.{Token};
 
     ghost Value = { Token };
 
-    ghost view = { λ w. record { sort = w.sort; text = w.text.now; place = w.place; number = w.number } };
+    ghost view = { λ t. record { sort = t.sort; text = t.text.now; place = t.place; number = t.number } };
 }
 
-impl<'a> Word<'a> {
+impl<'a> Token<'a> {
     /// A token of these parts.
-    pub(crate) fn new(sort: Sort, text: &'a [u8], place: Place, number: usize) -> Word<'a>
+    pub(crate) fn new(sort: Sort, text: &'a [u8], place: Place, number: usize) -> Token<'a>
         ensures { result ≡ record { sort = sort; text = text.now; place = place; number = number } }
     {
-        Word {
+        Token {
             sort,
             text,
             place,
