@@ -1,7 +1,7 @@
 -- What a call of the program's top function does, for every source and sink, every cut of the bytes and every fault.
 use Rattle.std.specs.Prelude.{◌≡◌, ℕ, ◌<◌, ◌≤◌, ◌⊎◌, Bool, true, List, [], ◌∷◌, length, take, codes, Option, IfSome}
 use Rattle.std.specs.Io.KnownBytes.{Consumes, Appends, Keeps, IsAtEnd}
-use Rattle.qvm_io.specs.Causes.{Rose}
+use Rattle.qvm_io.specs.Causes.{Rose, Stays}
 use Rattle.qvm_io.specs.Transfer.{GainsFront, LosesFront}
 use Rattle.qvm.specs.RunText.{Reply, IsReplyTo}
 
@@ -36,7 +36,15 @@ IsRunCommand words = words ≡ codes "run" ∷ []
 abbrev pub usage_text : List ℕ
 usage_text = codes "usage: qvm run | pipe | gen | audit | serve | call\n"
 
--- The text was read: it is what the call took from the source, to its end or to the bound. So where the source tells its
+-- no read failed
+abbrev pub NoReadFails : SourceCall → Type 0
+NoReadFails source = Stays source.faults_before source.faults_after
+
+-- no write failed
+abbrev pub NoWriteFails : SinkCall → Type 0
+NoWriteFails sink = Stays sink.faults_before sink.faults_after
+
+-- The text was read, and no read failed: it is what the call took from the source, to its end or to the bound. So where the source tells its
 -- bytes, it is all that was left, or the first bytes of it up to the bound.
 pub record Reads (source : SourceCall) (text : List ℕ) : Type 0 where
   pub taken : Consumes source.left_before source.left_after text
@@ -44,18 +52,20 @@ pub record Reads (source : SourceCall) (text : List ℕ) : Type 0 where
   pub ended : length text < read_bound → source.at_end_after ≡ true
   pub empty : length text < read_bound → IsAtEnd source.left_after
   pub whole : IfSome source.left_before (λ all. text ≡ take read_bound all)
+  pub steady : NoReadFails source
 
 -- the source failed, when a front of what was left had been taken
 pub record ReadFails (source : SourceCall) : Type 0 where
   pub front : LosesFront source.left_before source.left_after read_bound
   pub cause : Rose source.faults_before source.faults_after
 
--- all of the output was written
+-- all of the output was written, and no write failed
 abbrev pub Writes : SinkCall → List ℕ → Type 0
-Writes sink output = Appends sink.taken_before sink.taken_after output
+Writes sink output = Appends sink.taken_before sink.taken_after output × NoWriteFails sink
 
+-- nothing was written, and no write failed
 abbrev pub WritesNothing : SinkCall → Type 0
-WritesNothing sink = Keeps sink.taken_before sink.taken_after
+WritesNothing sink = Keeps sink.taken_before sink.taken_after × NoWriteFails sink
 
 -- the sink failed, when a front of the output had been written
 pub record WriteFails (sink : SinkCall) (output : List ℕ) : Type 0 where
@@ -75,12 +85,12 @@ pub record Replies (source : SourceCall) (sink : SinkCall) (status : ℕ) : Type
   pub given : Gives sink reply.output reply.status status
 
 -- How a call with the word `run` ends: with the reply to the text that it read; or the source failed, nothing was written
--- and the status is 6; or memory ran out, nothing was written and the status is 8.
+-- and the status is 6; or memory ran out, no read failed, nothing was written and the status is 8.
 abbrev pub RunEnds : SourceCall → SinkCall → ℕ → Type 0
 RunEnds source sink status =
     Replies source sink status
     ⊎ ((ReadFails source × WritesNothing sink × (status ≡ 6))
-    ⊎ (WritesNothing sink × (status ≡ 8)))
+    ⊎ (NoReadFails source × WritesNothing sink × (status ≡ 8)))
 
 -- how a call with other words ends: with the usage line and the status 2, or the sink failed
 abbrev pub UsageEnds : SinkCall → ℕ → Type 0

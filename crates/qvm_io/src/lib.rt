@@ -1,8 +1,9 @@
 //! The outside world: what gives bytes, what takes bytes, and what gives random words.
 //!
 //! Each of the three traits counts its faults. `Failed` is answered only where that count rose in
-//! the call, so a caller can prove that a fault it reports did happen. Where an object tells what it
-//! has left or what it took, contracts name the exact bytes or words; where it doesn't, they claim
+//! the call, so a caller can prove that a fault it reports did happen. A call that succeeds leaves the
+//! count as it was, so a caller can also prove that none of its calls failed. Where an object tells what
+//! it has left or what it took, contracts name the exact bytes or words; where it doesn't, they claim
 //! nothing of them. The forms in memory are for tests and tell all; the forms over std tell what std's
 //! reader or writer tells, which of the process's own streams is nothing.
 //! `read_all` and `write_all` are the loops that every command needs.

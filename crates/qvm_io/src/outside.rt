@@ -1,6 +1,6 @@
-ghost use Rattle.std.specs.Prelude.{◌≡◌, ℕ, ◌<◌, ◌≤◌, List, [], ◌∷◌, length, take, Bool, Option, IfOk, OnErr};
+ghost use Rattle.std.specs.Prelude.{◌≡◌, ℕ, ◌<◌, ◌≤◌, List, [], ◌∷◌, length, take, Bool, Option, IfOk, OnOk, OnErr};
 ghost use Rattle.std.specs.Io.KnownBytes.{Appends, Consumes, IsAtEnd, Keeps};
-ghost use Rattle.qvm_io.specs.Causes.{Rose, NeverFalls};
+ghost use Rattle.qvm_io.specs.Causes.{Rose, Stays, NeverFalls};
 ghost use Rattle.qvm_io.specs.Transfer.{answered_end};
 
 use crate::errors::Failed;
@@ -27,6 +27,7 @@ pub trait Source {
         ensures last_read { saw_end self.new ≡ answered_end result }
 
         ensures none_lost { OnErr result (Keeps (bytes_left self.old) (bytes_left self.new)) }
+        ensures steady { OnOk result (Stays (faults self.old) (faults self.new)) }
         ensures cause { OnErr result (Rose (faults self.old) (faults self.new)) }
         ensures count { NeverFalls (faults self.old) (faults self.new) };
 }
@@ -49,6 +50,7 @@ pub trait Sink {
             Appends (bytes_taken self.old) (bytes_taken self.new) (take n piece.now)) }
 
         ensures none_taken { OnErr result (Keeps (bytes_taken self.old) (bytes_taken self.new)) }
+        ensures steady { OnOk result (Stays (faults self.old) (faults self.new)) }
         ensures cause { OnErr result (Rose (faults self.old) (faults self.new)) }
         ensures count { NeverFalls (faults self.old) (faults self.new) };
 }
@@ -67,6 +69,7 @@ pub trait Dice {
             Consumes (words_left self.old) (words_left self.new) (word ∷ [])) }
 
         ensures none_lost { OnErr result (Keeps (words_left self.old) (words_left self.new)) }
+        ensures steady { OnOk result (Stays (faults self.old) (faults self.new)) }
         ensures cause { OnErr result (Rose (faults self.old) (faults self.new)) }
         ensures count { NeverFalls (faults self.old) (faults self.new) };
 }

@@ -1,6 +1,6 @@
 ghost use Rattle.std.specs.Prelude.{◌≡◌, ◌==◌, true, false, ◌+◌, ◌-◌, ℕ, ◌<◌, ◌≤◌, ◌++◌, length, take, vec_len, IfOk, IfSome, OnOk, OnErr, IsErrOf};
 ghost use Rattle.std.specs.Io.KnownBytes.{Appends, Consumes, IsAtEnd};
-ghost use Rattle.qvm_io.specs.Causes.{Rose, NeverFalls};
+ghost use Rattle.qvm_io.specs.Causes.{Rose, Stays, NeverFalls};
 ghost use Rattle.qvm_io.specs.Transfer.{LosesFront, GainsFront};
 
 use crate::errors::{Failed, ReadError};
@@ -31,6 +31,8 @@ pub fn read_all<S: Source>(
     ensures front { OnErr result
         (LosesFront (S.bytes_left source.old) (S.bytes_left source.new) bound) }
     ensures no_end { OnErr result (S.saw_end source.new ≡ false) }
+    ensures steady { OnOk result (Stays (S.faults source.old) (S.faults source.new)) }
+    ensures no_memory { IsErrOf result ReadError.OutOfMemory → Stays (S.faults source.old) (S.faults source.new) }
     ensures cause { IsErrOf result ReadError.Failed → Rose (S.faults source.old) (S.faults source.new) }
     ensures count { NeverFalls (S.faults source.old) (S.faults source.new) }
 {
@@ -57,6 +59,8 @@ fn read_more<S: Source>(source: &mut S, text: &mut Vec<u8>, room: usize) -> Resu
     ensures front { OnErr result
         (LosesFront (S.bytes_left source.old) (S.bytes_left source.new) room) }
     ensures no_end { OnErr result (S.saw_end source.new ≡ false) }
+    ensures steady { OnOk result (Stays (S.faults source.old) (S.faults source.new)) }
+    ensures no_memory { IsErrOf result ReadError.OutOfMemory → Stays (S.faults source.old) (S.faults source.new) }
     ensures cause { IsErrOf result ReadError.Failed → Rose (S.faults source.old) (S.faults source.new) }
     ensures count { NeverFalls (S.faults source.old) (S.faults source.new) }
 {
@@ -73,6 +77,7 @@ pub fn write_all<K: Sink>(sink: &mut K, piece: &[u8]) -> Result<(), Failed>
         (Appends (K.bytes_taken sink.old) (K.bytes_taken sink.new) piece.now) }
     ensures front { OnErr result
         (GainsFront (K.bytes_taken sink.old) (K.bytes_taken sink.new) piece.now) }
+    ensures steady { OnOk result (Stays (K.faults sink.old) (K.faults sink.new)) }
     ensures cause { OnErr result (Rose (K.faults sink.old) (K.faults sink.new)) }
     ensures count { NeverFalls (K.faults sink.old) (K.faults sink.new) }
 {

@@ -1,16 +1,17 @@
 -- Steps and words.
 use Rattle.std.proofs.Common.{◌≡◌, ◌≢◌, refl, sym, ◌∙◌, ap, ℕ, ◌^◌, ◌<◌, Bool, true, false, List, [], length, get_or}
 use Rattle.std.proofs.lemmas.Option.{slice_get_read}
-use Rattle.std.specs.Prelude.{Option, Some, None, slice_get}
+use Rattle.std.specs.Prelude.{Option, Some, None, slice_get, nat_le, if◌then◌else◌}
 use Rattle.qvm_step.specs.declared.plan.PlanLine.{PlanLine}
 use Rattle.qvm_step.specs.declared.plan.First.{First}
 use Rattle.qvm_step.specs.declared.plan.First.TheVariants.{X, H, Cnot, Measure, Halt}
 use Rattle.qvm_step.specs.declared.state.FirstState.{FirstState}
-use Rattle.qvm_ring.specs.Ray.{Ray, IsFiniteMap}
+use Rattle.qvm_ring.specs.Ray.{Ray, IsFiniteMap, weight, weight_limit}
+use Rattle.qvm_ring.specs.Gate.{Gate, applied}
 use Rattle.qvm_ring.specs.Measure.{outcome, kept}
 use Rattle.qvm_ring.specs.NormViews.{bit_number}
 use Rattle.qvm_step.specs.Program.{Program}
-use Rattle.qvm_step.specs.Step.{step, needs_word, after_line, after_instruction, is_measurement, line_needs_word}
+use Rattle.qvm_step.specs.Step.{Goes, Halts, Exceeds, step, needs_word, after_gate, after_line, after_instruction, is_measurement, line_needs_word}
 
 instruction_without_word : (f : First) (line word other : ℕ) (m : FirstState) → is_measurement f ≡ false → after_instruction f line word m ≡ after_instruction f line other m
 instruction_without_word (X q) line word other m h = refl
@@ -45,3 +46,11 @@ pub step_found : (program : Program) (m : FirstState) (word : ℕ) (lines : List
     l ≡ get_or lines m.at l → l.instruction ≡ f → after_instruction f l.line word m ≡ step program m word
 step_found program m word lines l f e h k i =
     sym (step_at program m word l f (ap (λ (ls : List PlanLine). slice_get ls m.at) (sym e) ∙ slice_get_read lines (length lines) m.at l refl h k) i)
+
+goes_or_exceeds : (b : Bool) (next : FirstState) (line : ℕ) → (if b then Goes next else Exceeds line) ≢ Halts
+goes_or_exceeds true next line e = absurd (cc)
+goes_or_exceeds false next line e = absurd (cc)
+
+-- a gate never halts
+pub gate_goes_on : (g : Gate) (qs : List ℕ) (line : ℕ) (m : FirstState) → after_gate g qs line m ≢ Halts
+gate_goes_on g qs line m = goes_or_exceeds (nat_le (weight (applied m.ray.qubits g qs m.ray.amplitudes)) weight_limit) _ line

@@ -1,5 +1,5 @@
 -- One step of the abstract machine (arXiv 1608.03355, with MEASURE and HALT of the Quil specification).
-use Rattle.std.specs.Prelude.{◌≡◌, ℕ, ◌+◌, ◌≤◌, nat_le, Bool, true, false, if◌then◌else◌, List, [], ◌∷◌, length, Option, Some, None, slice_get, slice_set}
+use Rattle.std.specs.Prelude.{◌≡◌, ◌≢◌, ℕ, ◌+◌, ◌≤◌, nat_le, Bool, true, false, if◌then◌else◌, List, [], ◌∷◌, length, Option, Some, None, slice_get, slice_set}
 use Rattle.qvm_ring.specs.Ray.{weight, weight_limit}
 use Rattle.qvm_ring.specs.Gate.{Gate, x_gate, h_gate, cnot_gate, applied}
 use Rattle.qvm_ring.specs.Measure.{outcome, projected}
@@ -81,9 +81,9 @@ pub record FitsProgram (program : Program) (m : FirstState) : Type 0 where
   pub place : m.at ≤ length program.lines
 
 -- What an answer of the code says of a step: it went where the definition goes; or nothing changed, and it halted,
--- exceeded the limit at that line, or there was no memory.
+-- exceeded the limit at that line, or there was no memory for a step that doesn't halt.
 abbrev pub Answers : Stepped → Next → FirstState → FirstState → Type 0
 Answers Went next old new = next ≡ Goes new
 Answers Halted next old new = (next ≡ Halts) × (new ≡ old)
 Answers (Faulted (AmplitudeLimit line)) next old new = (next ≡ Exceeds line) × (new ≡ old)
-Answers OutOfMemory next old new = new ≡ old
+Answers OutOfMemory next old new = (next ≢ Halts) × (new ≡ old)

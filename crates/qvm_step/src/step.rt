@@ -31,6 +31,7 @@ fn gate_step(applied: Result<(), ApplyFault>, at: &mut u32, line: u32) -> Steppe
     }
 }
 
+#[tactic(auto, using(crate::proofs::Steps::gate_goes_on))]
 fn x_step(alloc: Global, state: &mut FirstState, qubit: u32, line: u32) -> Stepped
     requires one { qubit < state.old.ray.qubits }
     requires place { state.old.at < 2 ^ 31 }
@@ -39,6 +40,7 @@ fn x_step(alloc: Global, state: &mut FirstState, qubit: u32, line: u32) -> Stepp
     gate_step(state.ray.apply_x(alloc, qubit), &mut state.at, line)
 }
 
+#[tactic(auto, using(crate::proofs::Steps::gate_goes_on))]
 fn h_step(alloc: Global, state: &mut FirstState, qubit: u32, line: u32) -> Stepped
     requires one { qubit < state.old.ray.qubits }
     requires place { state.old.at < 2 ^ 31 }
@@ -47,6 +49,7 @@ fn h_step(alloc: Global, state: &mut FirstState, qubit: u32, line: u32) -> Stepp
     gate_step(state.ray.apply_h(alloc, qubit), &mut state.at, line)
 }
 
+#[tactic(auto, using(crate::proofs::Steps::gate_goes_on))]
 fn cnot_step(alloc: Global, state: &mut FirstState, control: u32, target: u32, line: u32) -> Stepped
     requires first { control < state.old.ray.qubits }
     requires second { target < state.old.ray.qubits }
@@ -118,7 +121,7 @@ pub fn needs_word(plan: &Plan, state: &FirstState) -> bool
 /// One step, by the word where it is a measurement.
 ///
 /// The only fault is AmplitudeLimit, exactly where the reduced product of the line's gate weighs more than 2^94. After a fault, at
-/// a halt and at want of memory the state is as it was.
+/// a halt and at want of memory the state is as it was. Want of memory is never answered at a halt.
 #[tactic(auto, unfolding(crate::specs::Step::step))]
 pub fn first_step(alloc: Global, plan: &Plan, state: &mut FirstState, word: u32) -> Stepped
     requires { FitsProgram plan.now state.old }

@@ -16,6 +16,6 @@ pub enum Stepped {
     Halted,
     /// A fault. Nothing changed.
     Fault(Fault),
-    /// Want of memory. Nothing changed.
+    /// Want of memory, never at a halt. Nothing changed.
     OutOfMemory,
 }
