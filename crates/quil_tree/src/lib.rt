@@ -1,4 +1,4 @@
-//! The tree of a Quil text: its expressions.
+//! The tree of a Quil text: declarations, definitions, statements and expressions.
 //!
 //! An expression has no bound on its depth, so it is kept as a list of steps in reverse Polish order and never as boxes
 //! in boxes. Contracts see the steps as those of a tree (`specs/Expression.antt`); `one_tree` is the law that steps are
@@ -6,13 +6,23 @@
 #![tactic(auto)]
 
 mod expr;
+mod item;
 mod laws;
+mod list;
 mod place;
+mod statement;
 mod text;
 
 pub use expr::{Action, Address, Atom, Expr, Function, Operator, Sign, Step, Whole};
+pub use item::{
+    CellType, CircuitDefinition, Declaration, Form, GateDefinition, Item, Offset, Sharing, Tree,
+};
 pub use laws::one_tree;
+pub use list::List;
 pub use place::Place;
+pub use statement::{
+    Formula, Gate, Line, Modification, Modifier, Name, Operand, Qubit, Reference, Statement,
+};
 pub use text::Text;
 
 #[cfg(test)]
