@@ -1,6 +1,6 @@
 -- What stands alone, read from the tokens.
-use Rattle.std.proofs.Common.{◌≡◌, ℕ, ◌<◌, ◌≤◌, ◌^◌, ◌||◌, ◌&&◌, not, Bool, true, false, List, [], ◌∷◌, ◌⊎◌, inl, inr, refl, sym, ◌∙◌, ap, subst, Some, eqb-true, lt-ltb, le-ltb}
-use Rattle.std.specs.Prelude.{slice_get, nat_lt}
+use Rattle.std.proofs.Common.{◌≡◌, ℕ, ◌<◌, ◌≤◌, ◌^◌, ◌||◌, ◌&&◌, not, Bool, true, false, List, [], ◌∷◌, ◌⊎◌, inl, inr, refl, sym, ap, subst, lt-ltb, le-ltb}
+use Rattle.std.specs.Prelude.{nat_lt}
 use Rattle.quil_shape.specs.Shape.Shape.{Rule}
 use Rattle.quil_shape.specs.Reads.{Advances, Halts, Exceeds}
 use Rattle.quil_shape.proofs.Reading.{reading, barred_halts, choice_first, choice_not_first, emit_advances, token_then_advances, token_advances, token_then_halts, token_then_exceeds, token_exceeds, end_halts, token_halts, seq_halts_first, seq_exceeds_first}
@@ -9,8 +9,9 @@ use Rattle.quil_tree.specs.declared.expr.Atom.TheVariants as atom
 use Rattle.quil_grammar.specs.declared.sort.Sort.{Sort}
 use Rattle.quil_grammar.specs.declared.sort.Sort.TheVariants as sort
 use Rattle.quil_grammar.specs.declared.class.Class.TheVariants as class
-use Rattle.quil_grammar.specs.Sort.{is_sort, sorts, number_of, sort_is_listed}
+use Rattle.quil_grammar.specs.Sort.{is_sort, is_name}
 use Rattle.quil_grammar.specs.Token.{Token}
+use Rattle.quil_grammar.proofs.Sorts.{same_sort}
 use Rattle.quil_grammar.specs.Grammar.{quil, tables, accepts, index, whole_of, value_behind, Primary}
 use Rattle.quil_grammar.specs.Grammar.Event.{Stands, Region, Index}
 use Rattle.quil_grammar.specs.Written.{events_of_atom}
@@ -19,33 +20,59 @@ use Rattle.quil_grammar.specs.declared.stop.Stop.{Stop}
 use Rattle.quil_grammar.specs.declared.stop.Stop.TheVariants as stop
 use Rattle.quil_tree.specs.declared.expr.Whole.{Whole}
 
--- what the test says is the same is the same
-pub same_sort : (a b : Sort) → is_sort a b ≡ true → a ≡ b
-same_sort a b e =
-    let same : Some a ≡ Some b = sym (sort_is_listed a) ∙ ap (λ n. slice_get sorts n) (eqb-true (number_of a) (number_of b) e) ∙ sort_is_listed b in
-    cc
-
 pub either : (a b : Bool) → (a || b) ≡ true → (a ≡ true) ⊎ (b ≡ true)
 either true b e = inl refl
 either false b e = inr e
+
+-- what holds of each sort that a place takes
+same_as : (P : Sort → Type 0) (s b : Sort) → P b → is_sort s b ≡ true → P s
+same_as P s b p e = subst P (sym (same_sort s b e)) p
+
+pub name_cases : (P : Sort → Type 0) → P sort.Name → P sort.LeftOut → P sort.LeftOutForm → P sort.Formal → (s : Sort) → is_name s ≡ true → P s
+name_cases P p q r u s a =
+    elim (either (is_sort s sort.Name) (is_sort s sort.LeftOut || (is_sort s sort.LeftOutForm || is_sort s sort.Formal)) a) [
+      | inl e ↦ same_as P s sort.Name p e
+      | inr b ↦ elim (either (is_sort s sort.LeftOut) (is_sort s sort.LeftOutForm || is_sort s sort.Formal) b) [
+        | inl e ↦ same_as P s sort.LeftOut q e
+        | inr c ↦ elim (either (is_sort s sort.LeftOutForm) (is_sort s sort.Formal) c) [ inl e ↦ same_as P s sort.LeftOutForm r e | inr e ↦ same_as P s sort.Formal u e ]
+      ]
+    ]
+
+pub number_cases : (P : Sort → Type 0) → P sort.Zero → P sort.Whole → P sort.Decimal → (s : Sort) → accepts class.Number s ≡ true → P s
+number_cases P p q r s a =
+    elim (either (is_sort s sort.Zero) (is_sort s sort.Whole || is_sort s sort.Decimal) a) [
+      | inl e ↦ same_as P s sort.Zero p e
+      | inr b ↦ elim (either (is_sort s sort.Whole) (is_sort s sort.Decimal) b) [ inl e ↦ same_as P s sort.Whole q e | inr e ↦ same_as P s sort.Decimal r e ]
+    ]
+
+pub function_cases : (P : Sort → Type 0) → P sort.Sqrt → P sort.Sin → P sort.Cos → P sort.Cis → P sort.Exp → (s : Sort) → accepts class.Function s ≡ true → P s
+function_cases P p q r u v s a =
+    elim (either (is_sort s sort.Sqrt) (is_sort s sort.Sin || (is_sort s sort.Cos || (is_sort s sort.Cis || is_sort s sort.Exp))) a) [
+      | inl e ↦ same_as P s sort.Sqrt p e
+      | inr b ↦ elim (either (is_sort s sort.Sin) (is_sort s sort.Cos || (is_sort s sort.Cis || is_sort s sort.Exp)) b) [
+        | inl e ↦ same_as P s sort.Sin q e
+        | inr c ↦ elim (either (is_sort s sort.Cos) (is_sort s sort.Cis || is_sort s sort.Exp) c) [
+          | inl e ↦ same_as P s sort.Cos r e
+          | inr d ↦ elim (either (is_sort s sort.Cis) (is_sort s sort.Exp) d) [ inl e ↦ same_as P s sort.Cis u e | inr e ↦ same_as P s sort.Exp v e ]
+        ]
+      ]
+    ]
 
 -- a token of this sort
 abbrev pub token : Sort → List ℕ → Place → ℕ → Token
 token s x p n = record { sort = s; text = x; place = p; number = n }
 
+zero_stands : (refs : Bool) (x : List ℕ) (p : Place) (n : ℕ) (us : List Token) → Advances quil tables (Rule (Primary refs)) (token sort.Zero x p n ∷ us) us (Stands p (atom.Number x) ∷ [])
+unfolding quil tables
+zero_stands refs x p n us = search reading depth 12
+
 whole_stands : (refs : Bool) (x : List ℕ) (p : Place) (n : ℕ) (us : List Token) → Advances quil tables (Rule (Primary refs)) (token sort.Whole x p n ∷ us) us (Stands p (atom.Number x) ∷ [])
 unfolding quil tables
 whole_stands refs x p n us = search reading depth 12
 
-whole_at : (refs : Bool) (t : Token) (us : List Token) → t.sort ≡ sort.Whole → Advances quil tables (Rule (Primary refs)) (t ∷ us) us (Stands t.place (atom.Number t.text) ∷ [])
-whole_at refs t us e = subst (λ s. Advances quil tables (Rule (Primary refs)) (token s t.text t.place t.number ∷ us) us (Stands t.place (atom.Number t.text) ∷ [])) (sym e) (whole_stands refs t.text t.place t.number us)
-
 decimal_stands : (refs : Bool) (x : List ℕ) (p : Place) (n : ℕ) (us : List Token) → Advances quil tables (Rule (Primary refs)) (token sort.Decimal x p n ∷ us) us (Stands p (atom.Number x) ∷ [])
 unfolding quil tables
 decimal_stands refs x p n us = search reading depth 12
-
-decimal_at : (refs : Bool) (t : Token) (us : List Token) → t.sort ≡ sort.Decimal → Advances quil tables (Rule (Primary refs)) (t ∷ us) us (Stands t.place (atom.Number t.text) ∷ [])
-decimal_at refs t us e = subst (λ s. Advances quil tables (Rule (Primary refs)) (token s t.text t.place t.number ∷ us) us (Stands t.place (atom.Number t.text) ∷ [])) (sym e) (decimal_stands refs t.text t.place t.number us)
 
 imaginary_stands : (refs : Bool) (x : List ℕ) (p : Place) (n : ℕ) (us : List Token) → Advances quil tables (Rule (Primary refs)) (token sort.Imaginary x p n ∷ us) us (Stands p (atom.Imaginary x) ∷ [])
 unfolding quil tables
@@ -77,10 +104,8 @@ parameter_at refs t us e = subst (λ s. Advances quil tables (Rule (Primary refs
 
 number_at : (refs : Bool) (t : Token) (us : List Token) → accepts class.Number t.sort ≡ true → Advances quil tables (Rule (Primary refs)) (t ∷ us) us (Stands t.place (atom.Number t.text) ∷ [])
 number_at refs t us a =
-    elim (either (is_sort t.sort sort.Whole) (is_sort t.sort sort.Decimal) a) [
-      | inl e ↦ whole_at refs t us (same_sort t.sort sort.Whole e)
-      | inr e ↦ decimal_at refs t us (same_sort t.sort sort.Decimal e)
-    ]
+    number_cases (λ s. Advances quil tables (Rule (Primary refs)) (token s t.text t.place t.number ∷ us) us (Stands t.place (atom.Number t.text) ∷ []))
+    (zero_stands refs t.text t.place t.number us) (whole_stands refs t.text t.place t.number us) (decimal_stands refs t.text t.place t.number us) t.sort a
 
 -- the same of the parts that the reader made
 pub number_read : (refs : Bool) (us vs : List Token) (t : Token) (p : Place) (x : List ℕ) → us ≡ t ∷ vs → accepts class.Number t.sort ≡ true → p ≡ t.place → x ≡ t.text → Advances quil tables (Rule (Primary refs)) us vs (events_of_atom p (atom.Number x))
@@ -99,17 +124,53 @@ pub parameter_read : (refs : Bool) (us vs : List Token) (t : Token) (p : Place) 
 parameter_read refs us vs t p n e a f g = rw (e, f, g) (parameter_at refs t vs (same_sort t.sort sort.Parameter a))
 
 -- a cell is read where its index is
-cell_stands : (x : List ℕ) (p : Place) (n : ℕ) (us vs : List Token) (w : Whole) → Advances quil tables index us vs (Index w ∷ []) → Advances quil tables (Rule (Primary true)) (token sort.Name x p n ∷ us) vs (Region p x ∷ Index w ∷ [])
+name_stands : (x : List ℕ) (p : Place) (n : ℕ) (us vs : List Token) (w : Whole) → Advances quil tables index us vs (Index w ∷ []) → Advances quil tables (Rule (Primary true)) (token sort.Name x p n ∷ us) vs (Region p x ∷ Index w ∷ [])
 unfolding quil tables
-cell_stands x p n us vs w h = search reading depth 12
+name_stands x p n us vs w h = search reading depth 12
 
-cell_halts : (x : List ℕ) (p : Place) (n : ℕ) (us vs : List Token) → Halts quil tables index us vs → Halts quil tables (Rule (Primary true)) (token sort.Name x p n ∷ us) vs
+name_halts : (x : List ℕ) (p : Place) (n : ℕ) (us vs : List Token) → Halts quil tables index us vs → Halts quil tables (Rule (Primary true)) (token sort.Name x p n ∷ us) vs
 unfolding quil tables
-cell_halts x p n us vs h = search reading depth 12
+name_halts x p n us vs h = search reading depth 12
 
-cell_exceeds : (x : List ℕ) (p : Place) (n : ℕ) (us vs : List Token) → Exceeds quil tables index us vs → Exceeds quil tables (Rule (Primary true)) (token sort.Name x p n ∷ us) vs
+name_exceeds : (x : List ℕ) (p : Place) (n : ℕ) (us vs : List Token) → Exceeds quil tables index us vs → Exceeds quil tables (Rule (Primary true)) (token sort.Name x p n ∷ us) vs
 unfolding quil tables
-cell_exceeds x p n us vs h = search reading depth 12
+name_exceeds x p n us vs h = search reading depth 12
+
+left_out_stands : (x : List ℕ) (p : Place) (n : ℕ) (us vs : List Token) (w : Whole) → Advances quil tables index us vs (Index w ∷ []) → Advances quil tables (Rule (Primary true)) (token sort.LeftOut x p n ∷ us) vs (Region p x ∷ Index w ∷ [])
+unfolding quil tables
+left_out_stands x p n us vs w h = search reading depth 12
+
+left_out_halts : (x : List ℕ) (p : Place) (n : ℕ) (us vs : List Token) → Halts quil tables index us vs → Halts quil tables (Rule (Primary true)) (token sort.LeftOut x p n ∷ us) vs
+unfolding quil tables
+left_out_halts x p n us vs h = search reading depth 12
+
+left_out_exceeds : (x : List ℕ) (p : Place) (n : ℕ) (us vs : List Token) → Exceeds quil tables index us vs → Exceeds quil tables (Rule (Primary true)) (token sort.LeftOut x p n ∷ us) vs
+unfolding quil tables
+left_out_exceeds x p n us vs h = search reading depth 12
+
+form_stands : (x : List ℕ) (p : Place) (n : ℕ) (us vs : List Token) (w : Whole) → Advances quil tables index us vs (Index w ∷ []) → Advances quil tables (Rule (Primary true)) (token sort.LeftOutForm x p n ∷ us) vs (Region p x ∷ Index w ∷ [])
+unfolding quil tables
+form_stands x p n us vs w h = search reading depth 12
+
+form_halts : (x : List ℕ) (p : Place) (n : ℕ) (us vs : List Token) → Halts quil tables index us vs → Halts quil tables (Rule (Primary true)) (token sort.LeftOutForm x p n ∷ us) vs
+unfolding quil tables
+form_halts x p n us vs h = search reading depth 12
+
+form_exceeds : (x : List ℕ) (p : Place) (n : ℕ) (us vs : List Token) → Exceeds quil tables index us vs → Exceeds quil tables (Rule (Primary true)) (token sort.LeftOutForm x p n ∷ us) vs
+unfolding quil tables
+form_exceeds x p n us vs h = search reading depth 12
+
+formal_stands : (x : List ℕ) (p : Place) (n : ℕ) (us vs : List Token) (w : Whole) → Advances quil tables index us vs (Index w ∷ []) → Advances quil tables (Rule (Primary true)) (token sort.Formal x p n ∷ us) vs (Region p x ∷ Index w ∷ [])
+unfolding quil tables
+formal_stands x p n us vs w h = search reading depth 12
+
+formal_halts : (x : List ℕ) (p : Place) (n : ℕ) (us vs : List Token) → Halts quil tables index us vs → Halts quil tables (Rule (Primary true)) (token sort.Formal x p n ∷ us) vs
+unfolding quil tables
+formal_halts x p n us vs h = search reading depth 12
+
+formal_exceeds : (x : List ℕ) (p : Place) (n : ℕ) (us vs : List Token) → Exceeds quil tables index us vs → Exceeds quil tables (Rule (Primary true)) (token sort.Formal x p n ∷ us) vs
+unfolding quil tables
+formal_exceeds x p n us vs h = search reading depth 12
 
 -- a region stands only where references are taken
 refs_taken : (b refs : Bool) → (b && refs) ≡ true → (b ≡ true) × (refs ≡ true)
@@ -119,17 +180,17 @@ refs_taken false refs e = absurd (cc)
 
 pub cell_read : (refs : Bool) (us vs ws : List Token) (t : Token) (p : Place) (x : List ℕ) (w : Whole) → us ≡ t ∷ vs → accepts (class.Region refs) t.sort ≡ true → p ≡ t.place → x ≡ t.text → Advances quil tables index vs ws (Index w ∷ []) → Advances quil tables (Rule (Primary refs)) us ws (events_of_atom p (atom.Cell (record { region = x; index = w })))
 cell_read refs us vs ws t p x w e a f g h =
-    let both = refs_taken (is_sort t.sort sort.Name) refs a in
-    rw (e, f, g, both.1) (subst (λ s. Advances quil tables (Rule (Primary true)) (token s t.text t.place t.number ∷ vs) ws (Region t.place t.text ∷ Index w ∷ [])) (sym (same_sort t.sort sort.Name both.0)) (cell_stands t.text t.place t.number vs ws w h))
+    let both = refs_taken (is_name t.sort) refs a in
+    rw (e, f, g, both.1) (name_cases (λ s. Advances quil tables (Rule (Primary true)) (token s t.text t.place t.number ∷ vs) ws (Region t.place t.text ∷ Index w ∷ [])) (name_stands t.text t.place t.number vs ws w h) (left_out_stands t.text t.place t.number vs ws w h) (form_stands t.text t.place t.number vs ws w h) (formal_stands t.text t.place t.number vs ws w h) t.sort both.0)
 
 pub cell_stops : (refs : Bool) (us vs ws : List Token) (t : Token) (e : Stop) → us ≡ t ∷ vs → accepts (class.Region refs) t.sort ≡ true → StopsFor e index vs ws → StopsFor e (Rule (Primary refs)) us ws
 cell_stops refs us vs ws t stop.OutOfMemory e a h = tt
 cell_stops refs us vs ws t stop.Unexpected e a h =
-    let both = refs_taken (is_sort t.sort sort.Name) refs a in
-    rw (e, both.1) (subst (λ s. Halts quil tables (Rule (Primary true)) (token s t.text t.place t.number ∷ vs) ws) (sym (same_sort t.sort sort.Name both.0)) (cell_halts t.text t.place t.number vs ws h))
+    let both = refs_taken (is_name t.sort) refs a in
+    rw (e, both.1) (name_cases (λ s. Halts quil tables (Rule (Primary true)) (token s t.text t.place t.number ∷ vs) ws) (name_halts t.text t.place t.number vs ws h) (left_out_halts t.text t.place t.number vs ws h) (form_halts t.text t.place t.number vs ws h) (formal_halts t.text t.place t.number vs ws h) t.sort both.0)
 cell_stops refs us vs ws t stop.TooLarge e a h =
-    let both = refs_taken (is_sort t.sort sort.Name) refs a in
-    rw (e, both.1) (subst (λ s. Exceeds quil tables (Rule (Primary true)) (token s t.text t.place t.number ∷ vs) ws) (sym (same_sort t.sort sort.Name both.0)) (cell_exceeds t.text t.place t.number vs ws h))
+    let both = refs_taken (is_name t.sort) refs a in
+    rw (e, both.1) (name_cases (λ s. Exceeds quil tables (Rule (Primary true)) (token s t.text t.place t.number ∷ vs) ws) (name_exceeds t.text t.place t.number vs ws h) (left_out_exceeds t.text t.place t.number vs ws h) (form_exceeds t.text t.place t.number vs ws h) (formal_exceeds t.text t.place t.number vs ws h) t.sort both.0)
 
 -- where no primary begins, none is read
 pub no_primary : (refs : Bool) (us : List Token) → is_next class.Number us ≡ false → is_next class.Imaginary us ≡ false → is_next class.Pi us ≡ false → is_next class.I us ≡ false → is_next class.Parameter us ≡ false → is_next (class.Region refs) us ≡ false → is_next class.Function us ≡ false → is_next class.Parenthesis us ≡ false → Halts quil tables (Rule (Primary refs)) us us

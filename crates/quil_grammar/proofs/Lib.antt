@@ -1,3 +1,4 @@
+pub mod Sorts
 pub mod Values
 pub mod Names
 pub mod Ends
@@ -9,3 +10,8 @@ pub mod Writings
 pub mod Verdicts
 pub mod Only
 pub mod Wholes
+pub mod Addresses
+pub mod Heads
+pub mod Followers
+pub mod Literals
+pub mod Parts

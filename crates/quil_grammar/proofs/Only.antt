@@ -75,6 +75,11 @@ one_fault text (fault.Unexpected l c) (fault.BadToken m d) some more x y = one_r
 one_fault text (fault.Unexpected l c) (fault.Unexpected m d) some more x y = one_refusal text (fault.Unexpected l c) (fault.Unexpected m d) x.1 y.1
 one_fault text (fault.Unexpected l c) (fault.TextTooLong n) some more x y = absurd (omega (arith, x.0, y.0))
 one_fault text (fault.Unexpected l c) fault.OutOfMemory some more x y = absurd (more refl)
+one_fault text (fault.NumberTooWide l c) (fault.LeftOut m w) some more x y = absurd y
+one_fault text (fault.BadToken l c) (fault.LeftOut m w) some more x y = absurd y
+one_fault text (fault.Unexpected l c) (fault.LeftOut m w) some more x y = absurd y
+one_fault text (fault.LeftOut m w) g some more x y = absurd x
+one_fault text (fault.TextTooLong n) (fault.LeftOut m w) some more x y = absurd y
 one_fault text (fault.TextTooLong n) (fault.NumberTooWide m d) some more x y = absurd (omega (arith, x.0, y.0))
 one_fault text (fault.TextTooLong n) (fault.BadToken m d) some more x y = absurd (omega (arith, x.0, y.0))
 one_fault text (fault.TextTooLong n) (fault.Unexpected m d) some more x y = absurd (omega (arith, x.0, y.0))
@@ -86,6 +91,7 @@ pub not_both : (text : List ℕ) (ss : List Step) (f : ReadFault) → f ≢ faul
 not_both text ss (fault.NumberTooWide l c) some x y = not_refused text ss (fault.NumberTooWide l c) x y.1
 not_both text ss (fault.BadToken l c) some x y = not_refused text ss (fault.BadToken l c) x y.1
 not_both text ss (fault.Unexpected l c) some x y = not_refused text ss (fault.Unexpected l c) x y.1
+not_both text ss (fault.LeftOut m w) some x y = absurd y
 not_both text ss (fault.TextTooLong n) some x y = absurd (omega (arith, x.is_short, y.0))
 not_both text ss fault.OutOfMemory some x y = absurd (some refl)
 

@@ -8,9 +8,9 @@ use Rattle.quil_tree.specs.declared.place.Place.{Place}
 use Rattle.quil_tree.specs.declared.expr.Atom.{Atom}
 use Rattle.quil_tree.specs.declared.expr.Sign.{Sign}
 use Rattle.quil_tree.specs.declared.expr.Function.{Function}
+use Rattle.quil_tree.specs.declared.expr.Function.TheVariants as function
 use Rattle.quil_tree.specs.declared.expr.Step.{Step}
 use Rattle.quil_tree.specs.declared.expr.Action.TheVariants as action
-use Rattle.quil_grammar.specs.declared.sort.Sort.{Sort}
 use Rattle.quil_grammar.specs.declared.sort.Sort.TheVariants as sort
 use Rattle.quil_grammar.specs.declared.class.Class.{Class}
 use Rattle.quil_grammar.specs.declared.class.Class.TheVariants as class
@@ -28,7 +28,8 @@ use Rattle.quil_grammar.specs.declared.reader.Reader.{Reader}
 use Rattle.std.specs.Prelude.{Result, Err}
 use Rattle.std.specs.Result.{IsErrAnd}
 use Rattle.std.proofs.lemmas.Result.{err_from_is_err_and}
-use Rattle.quil_grammar.proofs.Atoms.{same_sort, token}
+use Rattle.quil_grammar.proofs.Sorts.{same_sort}
+use Rattle.quil_grammar.proofs.Atoms.{token, function_cases}
 
 -- the second side of a choice decides
 pub or_second : (a b : Bool) → b ≡ true → (a || b) ≡ true
@@ -65,51 +66,46 @@ parenthesis_goes : (refs : Bool) (t : Token) (us : List Token) (os : List Event)
 parenthesis_goes refs t us os k e = subst (λ s. GoesOn quil tables (Rule (Primary refs) ∷ k) (token s t.text t.place t.number ∷ us) os (parenthesized refs ∷ k) us (os ++ Opens (Parenthesized t.place) ∷ [])) (sym e) (parenthesis_stands refs t.text t.place t.number us os k)
 
 -- a function goes on to its argument
-function_stands : (refs : Bool) (s : Sort) (x : List ℕ) (p : Place) (n : ℕ) (us : List Token) (os : List Event) (k : List (Shape Class Event Name)) → accepts class.Function s ≡ true
-    → GoesOn quil tables (Rule (Primary refs) ∷ k) (token s x p n ∷ us) os (Seq (One class.ArgumentBegins) (parenthesized refs) ∷ k) us (os ++ Opens (Argument p (function_of s)) ∷ [])
+sqrt_stands : (refs : Bool) (x : List ℕ) (p : Place) (n : ℕ) (us : List Token) (os : List Event) (k : List (Shape Class Event Name))
+    → GoesOn quil tables (Rule (Primary refs) ∷ k) (token sort.Sqrt x p n ∷ us) os (Seq (One class.ArgumentBegins) (parenthesized refs) ∷ k) us (os ++ Opens (Argument p function.Sqrt) ∷ [])
 unfolding quil tables
-function_stands refs sort.Name x p n us os k e = absurd (cc)
-function_stands refs sort.Reserved x p n us os k e = absurd (cc)
-function_stands refs sort.Pi x p n us os k e = absurd (cc)
-function_stands refs sort.I x p n us os k e = absurd (cc)
-function_stands refs sort.Sqrt x p n us os k e =
+sqrt_stands refs x p n us os k =
     goes_then goes_rule (goes_then (goes_second refl) (goes_then (goes_second refl) (goes_then (goes_second refl) (goes_then (goes_second refl) (goes_then (goes_second refl) (goes_then (goes_second refl) (goes_then (goes_first refl)
     (goes_then goes_seq (goes_next (token_advances refl refl))))))))))
-function_stands refs sort.Sin x p n us os k e =
+
+sin_stands : (refs : Bool) (x : List ℕ) (p : Place) (n : ℕ) (us : List Token) (os : List Event) (k : List (Shape Class Event Name))
+    → GoesOn quil tables (Rule (Primary refs) ∷ k) (token sort.Sin x p n ∷ us) os (Seq (One class.ArgumentBegins) (parenthesized refs) ∷ k) us (os ++ Opens (Argument p function.Sin) ∷ [])
+unfolding quil tables
+sin_stands refs x p n us os k =
     goes_then goes_rule (goes_then (goes_second refl) (goes_then (goes_second refl) (goes_then (goes_second refl) (goes_then (goes_second refl) (goes_then (goes_second refl) (goes_then (goes_second refl) (goes_then (goes_first refl)
     (goes_then goes_seq (goes_next (token_advances refl refl))))))))))
-function_stands refs sort.Cos x p n us os k e =
+
+cos_stands : (refs : Bool) (x : List ℕ) (p : Place) (n : ℕ) (us : List Token) (os : List Event) (k : List (Shape Class Event Name))
+    → GoesOn quil tables (Rule (Primary refs) ∷ k) (token sort.Cos x p n ∷ us) os (Seq (One class.ArgumentBegins) (parenthesized refs) ∷ k) us (os ++ Opens (Argument p function.Cos) ∷ [])
+unfolding quil tables
+cos_stands refs x p n us os k =
     goes_then goes_rule (goes_then (goes_second refl) (goes_then (goes_second refl) (goes_then (goes_second refl) (goes_then (goes_second refl) (goes_then (goes_second refl) (goes_then (goes_second refl) (goes_then (goes_first refl)
     (goes_then goes_seq (goes_next (token_advances refl refl))))))))))
-function_stands refs sort.Cis x p n us os k e =
+
+cis_stands : (refs : Bool) (x : List ℕ) (p : Place) (n : ℕ) (us : List Token) (os : List Event) (k : List (Shape Class Event Name))
+    → GoesOn quil tables (Rule (Primary refs) ∷ k) (token sort.Cis x p n ∷ us) os (Seq (One class.ArgumentBegins) (parenthesized refs) ∷ k) us (os ++ Opens (Argument p function.Cis) ∷ [])
+unfolding quil tables
+cis_stands refs x p n us os k =
     goes_then goes_rule (goes_then (goes_second refl) (goes_then (goes_second refl) (goes_then (goes_second refl) (goes_then (goes_second refl) (goes_then (goes_second refl) (goes_then (goes_second refl) (goes_then (goes_first refl)
     (goes_then goes_seq (goes_next (token_advances refl refl))))))))))
-function_stands refs sort.Exp x p n us os k e =
+
+exp_stands : (refs : Bool) (x : List ℕ) (p : Place) (n : ℕ) (us : List Token) (os : List Event) (k : List (Shape Class Event Name))
+    → GoesOn quil tables (Rule (Primary refs) ∷ k) (token sort.Exp x p n ∷ us) os (Seq (One class.ArgumentBegins) (parenthesized refs) ∷ k) us (os ++ Opens (Argument p function.Exp) ∷ [])
+unfolding quil tables
+exp_stands refs x p n us os k =
     goes_then goes_rule (goes_then (goes_second refl) (goes_then (goes_second refl) (goes_then (goes_second refl) (goes_then (goes_second refl) (goes_then (goes_second refl) (goes_then (goes_second refl) (goes_then (goes_first refl)
     (goes_then goes_seq (goes_next (token_advances refl refl))))))))))
-function_stands refs sort.Whole x p n us os k e = absurd (cc)
-function_stands refs sort.Decimal x p n us os k e = absurd (cc)
-function_stands refs sort.Imaginary x p n us os k e = absurd (cc)
-function_stands refs sort.Str x p n us os k e = absurd (cc)
-function_stands refs sort.Parameter x p n us os k e = absurd (cc)
-function_stands refs sort.Label x p n us os k e = absurd (cc)
-function_stands refs sort.LeftParenthesis x p n us os k e = absurd (cc)
-function_stands refs sort.RightParenthesis x p n us os k e = absurd (cc)
-function_stands refs sort.LeftBracket x p n us os k e = absurd (cc)
-function_stands refs sort.RightBracket x p n us os k e = absurd (cc)
-function_stands refs sort.Comma x p n us os k e = absurd (cc)
-function_stands refs sort.Colon x p n us os k e = absurd (cc)
-function_stands refs sort.Plus x p n us os k e = absurd (cc)
-function_stands refs sort.Minus x p n us os k e = absurd (cc)
-function_stands refs sort.Star x p n us os k e = absurd (cc)
-function_stands refs sort.Slash x p n us os k e = absurd (cc)
-function_stands refs sort.Caret x p n us os k e = absurd (cc)
-function_stands refs sort.Semicolon x p n us os k e = absurd (cc)
-function_stands refs sort.Bad x p n us os k e = absurd (cc)
 
 function_goes : (refs : Bool) (t : Token) (us : List Token) (os : List Event) (k : List (Shape Class Event Name)) → accepts class.Function t.sort ≡ true
     → GoesOn quil tables (Rule (Primary refs) ∷ k) (t ∷ us) os (Seq (One class.ArgumentBegins) (parenthesized refs) ∷ k) us (os ++ Opens (Argument t.place (function_of t.sort)) ∷ [])
-function_goes refs t us os k e = function_stands refs t.sort t.text t.place t.number us os k e
+function_goes refs t us os k e =
+    function_cases (λ s. GoesOn quil tables (Rule (Primary refs) ∷ k) (token s t.text t.place t.number ∷ us) os (Seq (One class.ArgumentBegins) (parenthesized refs) ∷ k) us (os ++ Opens (Argument t.place (function_of s)) ∷ []))
+    (sqrt_stands refs t.text t.place t.number us os k) (sin_stands refs t.text t.place t.number us os k) (cos_stands refs t.text t.place t.number us os k) (cis_stands refs t.text t.place t.number us os k) (exp_stands refs t.text t.place t.number us os k) t.sort e
 
 argument_goes : (refs : Bool) (t : Token) (us : List Token) (os : List Event) (k : List (Shape Class Event Name)) → accepts class.ArgumentBegins t.sort ≡ true
     → GoesOn quil tables (Seq (One class.ArgumentBegins) (parenthesized refs) ∷ k) (t ∷ us) os (parenthesized refs ∷ k) us os

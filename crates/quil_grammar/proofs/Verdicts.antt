@@ -74,6 +74,18 @@ not_too_long p (Refused (t ∷ ts)) n e = bad_not_long (is_sort t.sort sort.Bad)
 not_too_long p (TooLarge []) n e = absurd (cc)
 not_too_long p (TooLarge (t ∷ ts)) n e = absurd (cc)
 
+-- or that the language leaves something out
+bad_not_left : (b : Bool) (p : Place) (n : ℕ) (w : List ℕ) → bad_or_unexpected b p ≡ fault.LeftOut n w → ⊥
+bad_not_left true p n w e = absurd (cc)
+bad_not_left false p n w e = absurd (cc)
+
+not_left_out : (p : Place) (v : Verdict Event Token) (n : ℕ) (w : List ℕ) → fault_of p v ≡ Some (fault.LeftOut n w) → ⊥
+not_left_out p (Read os) n w e = absurd (cc)
+not_left_out p (Refused []) n w e = absurd (cc)
+not_left_out p (Refused (t ∷ ts)) n w e = bad_not_left (is_sort t.sort sort.Bad) t.place n w (cc)
+not_left_out p (TooLarge []) n w e = absurd (cc)
+not_left_out p (TooLarge (t ∷ ts)) n w e = absurd (cc)
+
 -- what the reader tells of a text, by how it ended
 module _ (text : List ℕ) (spans : List Span) (ts us : List Token) (end : Place) (is_reading : IsReading text spans) (only_reading : (other : List Span) → IsReading text other → spans ≡ other) (same : ts ≡ tokens_among [] spans) (is_end : end ≡ end_of spans) where
   told : (f : ReadFault) → IsTold text spans f → Tells text (Err f)
@@ -81,6 +93,7 @@ module _ (text : List ℕ) (spans : List Span) (ts us : List Token) (end : Place
   told (fault.NumberTooWide line column) h = record { spans = spans; is_reading = is_reading; only_reading = only_reading; answers = h }
   told (fault.BadToken line column) h = record { spans = spans; is_reading = is_reading; only_reading = only_reading; answers = h }
   told (fault.Unexpected line column) h = record { spans = spans; is_reading = is_reading; only_reading = only_reading; answers = h }
+  told (fault.LeftOut n w) h = absurd (not_left_out (end_of spans) h.verdict n w h.is_fault)
   told (fault.TextTooLong n) h = absurd (not_too_long (end_of spans) h.verdict n h.is_fault)
 
   pub tells_found : (steps : List Step) → IsRead true ts us steps → true ≡ (length us == 0) → Tells text (Ok steps)
@@ -141,6 +154,7 @@ only_found text (Err fault.OutOfMemory) steps h x = inr refl
 only_found text (Err (fault.NumberTooWide l c)) steps h x = absurd (no_steps text h.spans h.is_reading h.only_reading _ steps h.answers x)
 only_found text (Err (fault.BadToken l c)) steps h x = absurd (no_steps text h.spans h.is_reading h.only_reading _ steps h.answers x)
 only_found text (Err (fault.Unexpected l c)) steps h x = absurd (no_steps text h.spans h.is_reading h.only_reading _ steps h.answers x)
+only_found text (Err (fault.LeftOut n w)) steps h x = absurd h
 only_found text (Err (fault.TextTooLong n)) steps h x = absurd h
 
 refused_as : (text : List ℕ) (r : Result (List Step) ReadFault) (f : ReadFault) → Tells text r → IsRefusal text f → Gives r (Err f)
@@ -149,6 +163,7 @@ refused_as text (Err fault.OutOfMemory) f h x = inr refl
 refused_as text (Err (fault.NumberTooWide l c)) f h x = inl (ap (λ y. Err y) (same_fault text h.spans h.is_reading h.only_reading (fault.NumberTooWide l c) f h.answers x))
 refused_as text (Err (fault.BadToken l c)) f h x = inl (ap (λ y. Err y) (same_fault text h.spans h.is_reading h.only_reading (fault.BadToken l c) f h.answers x))
 refused_as text (Err (fault.Unexpected l c)) f h x = inl (ap (λ y. Err y) (same_fault text h.spans h.is_reading h.only_reading (fault.Unexpected l c) f h.answers x))
+refused_as text (Err (fault.LeftOut n w)) f h x = absurd h
 refused_as text (Err (fault.TextTooLong n)) f h x = absurd h
 
 pub only_fault : (text : List ℕ) (r : Result (List Step) ReadFault) (f : ReadFault) → Tells text r → length text ≤ most_bytes → f ≢ fault.OutOfMemory → IsFault text f → Gives r (Err f)
@@ -156,6 +171,7 @@ only_fault text r fault.OutOfMemory h small some x = absurd (some refl)
 only_fault text r (fault.NumberTooWide l c) h small some x = refused_as text r (fault.NumberTooWide l c) h x.1
 only_fault text r (fault.BadToken l c) h small some x = refused_as text r (fault.BadToken l c) h x.1
 only_fault text r (fault.Unexpected l c) h small some x = refused_as text r (fault.Unexpected l c) h x.1
+only_fault text r (fault.LeftOut n w) h small some x = absurd x
 only_fault text r (fault.TextTooLong n) h small some x = absurd (omega (arith, x.0))
 
 -- a text that is too long has no other fault
@@ -164,4 +180,5 @@ long_fault text fault.OutOfMemory long some x = absurd (some refl)
 long_fault text (fault.NumberTooWide l c) long some x = absurd (omega (arith, x.0))
 long_fault text (fault.BadToken l c) long some x = absurd (omega (arith, x.0))
 long_fault text (fault.Unexpected l c) long some x = absurd (omega (arith, x.0))
+long_fault text (fault.LeftOut n w) long some x = absurd x
 long_fault text (fault.TextTooLong n) long some x = rw x.1 refl

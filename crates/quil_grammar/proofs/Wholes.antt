@@ -1,12 +1,11 @@
 -- What reading makes of a whole expression is that of a written one.
-use Rattle.std.proofs.Common.{◌≡◌, ℕ, Bool, true, false, List, [], ◌∷◌, ◌++◌, refl, sym, ◌∙◌, ap, append_assoc, append-nil}
-use Rattle.quil_shape.specs.Shape.{Shape}
+use Rattle.std.proofs.Common.{◌≡◌, Bool, List, [], ◌∷◌, ◌++◌, refl, sym, ◌∙◌, ap, append_assoc, append-nil}
 use Rattle.quil_shape.specs.Shape.Shape.{Rule}
 use Rattle.quil_shape.specs.Whole.{Whole}
 use Rattle.quil_tree.specs.declared.expr.Atom.TheVariants as atom
 use Rattle.quil_tree.specs.declared.expr.Operator.{Operator}
 use Rattle.quil_grammar.specs.Token.{Token}
-use Rattle.quil_grammar.specs.Grammar.{quil, Name, Sum, Product, Unary, Power, Primary, Event, more_terms, more_factors, exponent, primary, parenthesized, signed, whole_of, operator_of, sign_of, function_of}
+use Rattle.quil_grammar.specs.Grammar.{quil, Sum, Product, Unary, Power, Primary, Event, more_terms, more_factors, whole_of, operator_of, sign_of, function_of}
 use Rattle.quil_grammar.specs.Grammar.Event.{Between, Joined, Opens, Closes}
 use Rattle.quil_grammar.specs.Grammar.Around.{Signed, Parenthesized, Argument}
 use Rattle.quil_grammar.specs.Written.{Written, events}
@@ -41,7 +40,7 @@ mutual
       let z = terms_go (Joins (operator_of t.sort) a b.written) m in
       record { written = z.written; same = behind a b.written (operator_of t.sort) _ ps b.same ∙ z.same }
 
-  product_is : {refs : Bool} {ts : List Token} {os : List Event} → Whole quil (Rule (Product refs)) ts os → IsWriting os
+  pub product_is : {refs : Bool} {ts : List Token} {os : List Event} → Whole quil (Rule (Product refs)) ts os → IsWriting os
   product_is (Whole.rule (Whole.seq {ps = ps} p m)) =
       let a = unary_is p in
       let z = factors_go a.written m in
@@ -54,7 +53,7 @@ mutual
       let z = factors_go (Joins (operator_of t.sort) a b.written) m in
       record { written = z.written; same = behind a b.written (operator_of t.sort) _ ps b.same ∙ z.same }
 
-  unary_is : {refs : Bool} {ts : List Token} {os : List Event} → Whole quil (Rule (Unary refs)) ts os → IsWriting os
+  pub unary_is : {refs : Bool} {ts : List Token} {os : List Event} → Whole quil (Rule (Unary refs)) ts os → IsWriting os
   unary_is (Whole.rule (Whole.left (Whole.seq (Whole.one {t = t} h) (Whole.seq p Whole.emit)))) =
       let a = unary_is p in
       record { written = Within (Signed t.place (sign_of t.sort)) a.written; same = ap (λ xs. Opens (Signed t.place (sign_of t.sort)) ∷ (xs ++ Closes ∷ [])) a.same }

@@ -3,19 +3,20 @@ use Rattle.std.proofs.Common.{◌≡◌, ℕ, List, [], ◌∷◌, ◌++◌, ref
 use Rattle.quil_tree.specs.declared.place.Place.{Place}
 use Rattle.quil_tree.specs.declared.expr.Atom.TheVariants as atom
 use Rattle.quil_tree.specs.declared.expr.Operator.{Operator}
-use Rattle.quil_grammar.specs.Grammar.{Event, Around}
-use Rattle.quil_grammar.specs.Grammar.Event.{Stands, Region, Index, Between, Joined, Opens, Closes}
+use Rattle.quil_grammar.specs.Grammar.{Event, Around, Piece}
+use Rattle.quil_grammar.specs.Grammar.Event.{Stands, Region, Index, Between, Joined, Opens, Closes, Makes}
 use Rattle.quil_grammar.specs.Written.{Written, events}
 use Rattle.quil_grammar.specs.Written.Written.{Alone, Joins, Within}
 
--- an expression, or what waits for one
-data Item : Type 0 where
+-- an expression, what waits for one, or what was made outside expressions
+pub data Item : Type 0 where
   Done : Written → Item
   Named : Place → List ℕ → Item
   Operating : Operator → Item
   Opened : Around → Item
+  Kept : Piece → Item
 
-act : Event → List Item → List Item
+unfoldable pub act : Event → List Item → List Item
 act (Stands p a) is = Done (Alone p a) ∷ is
 act (Region p x) is = Named p x ∷ is
 act (Index i) (Named p x ∷ is) = Done (Alone p (atom.Cell (record { region = x; index = i }))) ∷ is
@@ -26,12 +27,13 @@ act Joined _ = []
 act (Opens m) is = Opened m ∷ is
 act Closes (Done a ∷ Opened m ∷ is) = Done (Within m a) ∷ is
 act Closes _ = []
+act (Makes p) is = Kept p ∷ is
 
-run : List Event → List Item → List Item
+unfoldable pub run : List Event → List Item → List Item
 run [] is = is
 run (m ∷ ms) is = run ms (act m is)
 
-run_events : (w : Written) (ms : List Event) (is : List Item) → run (events w ++ ms) is ≡ run ms (Done w ∷ is)
+pub run_events : (w : Written) (ms : List Event) (is : List Item) → run (events w ++ ms) is ≡ run ms (Done w ∷ is)
 unfolding run act
 run_events (Alone p (atom.Number x)) ms is = refl
 run_events (Alone p (atom.Imaginary x)) ms is = refl

@@ -50,6 +50,7 @@ pub record IsRefusal (text : List ℕ) (f : ReadFault) : Type 0 where
 abbrev pub IsFault : List ℕ → ReadFault → Type 0
 IsFault text (fault.TextTooLong n) = (most_bytes < length text) × (n ≡ length text)
 IsFault text fault.OutOfMemory = Unit {0}
+IsFault text (fault.LeftOut line word) = ⊥
 IsFault text (fault.NumberTooWide line column) = (length text ≤ most_bytes) × IsRefusal text (fault.NumberTooWide line column)
 IsFault text (fault.BadToken line column) = (length text ≤ most_bytes) × IsRefusal text (fault.BadToken line column)
 IsFault text (fault.Unexpected line column) = (length text ≤ most_bytes) × IsRefusal text (fault.Unexpected line column)

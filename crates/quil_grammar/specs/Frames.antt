@@ -1,5 +1,5 @@
--- What the reader of expressions has still to read, and what it holds. Nobody has to believe these: the clause of
--- `expression` says what is read.
+-- What the reader of expressions has still to read, and what it holds. The records at the end say what the readers of
+-- expressions and operands tell; `parse_expr` and `parse` are told by other words, so nobody has to believe these for them.
 use Rattle.std.specs.Prelude.{◌≡◌, Bool, true, false, List, [], ◌∷◌, ◌++◌, Result, Ok, Err}
 use Rattle.quil_shape.specs.Shape.{Shape}
 use Rattle.quil_shape.specs.Shape.Shape.{One, Emit, Seq, Rule}
@@ -7,12 +7,14 @@ use Rattle.quil_shape.specs.Reads.{GoesOn, Advances, Halts, Exceeds, first_passe
 use Rattle.quil_tree.specs.declared.place.Place.{Place}
 use Rattle.quil_tree.specs.declared.expr.Operator.{Operator}
 use Rattle.quil_tree.specs.declared.expr.Step.{Step}
+use Rattle.quil_tree.specs.declared.statement.Formula.{Formula}
+use Rattle.quil_tree.specs.declared.statement.Operand.{Operand as AnOperand}
 use Rattle.quil_tree.specs.Expression.{postfix}
 use Rattle.quil_grammar.specs.Token.{Token}
-use Rattle.quil_grammar.specs.Grammar.{quil, tables, accepts, Name, Sum, Unary, Event, Around, more_terms, more_factors, exponent}
+use Rattle.quil_grammar.specs.Grammar.{quil, tables, accepts, Name, Sum, OperandSum, Unary, Event, Around, more_terms, more_factors, exponent}
 use Rattle.quil_grammar.specs.Grammar.Around.{Signed, Parenthesized, Argument}
 use Rattle.quil_grammar.specs.Grammar.Event.{Between, Joined, Opens, Closes}
-use Rattle.quil_grammar.specs.Written.{Written, events, meaning, start}
+use Rattle.quil_grammar.specs.Written.{Written, events, meaning, start, formula_of, operand_of}
 use Rattle.quil_grammar.specs.declared.class.Class.{Class}
 use Rattle.quil_grammar.specs.declared.class.Class.TheVariants as class
 use Rattle.quil_grammar.specs.declared.reader.Reader.{Reader}
@@ -127,3 +129,15 @@ pub record IsRead (refs : Bool) (ts us : List Token) (steps : List Step) : Type 
   pub written : Written
   pub advances : Advances quil tables (Rule (Sum refs)) ts us (events written)
   pub is_meaning : steps ≡ postfix (meaning written)
+
+-- the same with its place
+pub record IsFormulaRead (refs : Bool) (ts us : List Token) (f : Formula) : Type 0 where
+  pub written : Written
+  pub advances : Advances quil tables (Rule (Sum refs)) ts us (events written)
+  pub is_meaning : f ≡ formula_of written
+
+-- this operand, no address, is read from the first tokens up to the second
+pub record IsOperandRead (ts us : List Token) (o : AnOperand) : Type 0 where
+  pub written : Written
+  pub advances : Advances quil tables (Rule OperandSum) ts us (events written)
+  pub is_meaning : o ≡ operand_of written

@@ -1,6 +1,8 @@
--- The grammar of expressions, and the tables by which one token decides each choice in it.
+-- The places for a token in expressions and lines, the grammar of expressions, and the tables by which one token decides each
+-- choice in it. `Statements.antt` has the forms of lines.
 -- Loosest first: `+` and `-`, `*` and `/`, a sign, `^`, and then what stands alone or in parentheses.
 use Rattle.std.specs.Prelude.{if◌then◌else◌, ◌≡◌, ℕ, ◌+◌, ◌-◌, ◌*◌, ◌^◌, Bool, true, false, not, ◌&&◌, ◌||◌, nat_lt, List, [], ◌∷◌, Some, slice_get, refl}
+use Rattle.std.specs.List.{list_all}
 use Rattle.quil_shape.specs.Shape.{Shape, Grammar}
 use Rattle.quil_shape.specs.Shape.Shape.{One, Emit, Empty, Seq, Or, Many, Rule}
 use Rattle.quil_shape.specs.Condition.{Tables}
@@ -14,9 +16,12 @@ use Rattle.quil_tree.specs.declared.expr.Operator.{Operator}
 use Rattle.quil_tree.specs.declared.expr.Operator.TheVariants.{Add, Subtract, Multiply, Divide, Power as Raise}
 use Rattle.quil_tree.specs.declared.expr.Function.{Function}
 use Rattle.quil_tree.specs.declared.expr.Function.TheVariants as function
+use Rattle.quil_tree.specs.declared.statement.Name.{Name as Called}
+use Rattle.quil_tree.specs.declared.statement.Qubit.{Qubit}
+use Rattle.quil_tree.specs.declared.statement.Qubit.TheVariants as qubit
 use Rattle.quil_grammar.specs.declared.sort.Sort.{Sort}
 use Rattle.quil_grammar.specs.declared.sort.Sort.TheVariants as sort
-use Rattle.quil_grammar.specs.Sort.{sorts, number_of, is_sort, sort_is_listed}
+use Rattle.quil_grammar.specs.Sort.{sorts, number_of, is_sort, is_name, is_whole, sort_is_listed}
 use Rattle.quil_grammar.specs.Token.{Token}
 use Rattle.quil_grammar.specs.declared.class.Class.{Class}
 use Rattle.quil_grammar.specs.declared.class.Class.TheVariants as class
@@ -27,8 +32,18 @@ pub data Around : Type 0 where
   Parenthesized : Place → Around
   Argument : Place → Function → Around
 
+-- what reading makes outside expressions: a word, with its class and its sort; a name; the name of a parameter that a
+-- definition takes; a qubit; a number; a token that is kept as it was written
+pub data Piece : Type 0 where
+  Says : Place → Class → Sort → Piece
+  Names : Called → Piece
+  Takes : Called → Piece
+  Acts : Qubit → Piece
+  Counts : Whole → Piece
+  Keeps : List ℕ → Piece
+
 -- What reading makes: an atom; of a cell its region and then its index; an operator between its operands, which are
--- joined behind the second; and what is put round an expression, before it and again behind it.
+-- joined behind the second; what is put round an expression, before it and again behind it; and what stands outside one.
 pub data Event : Type 0 where
   Stands : Place → Atom → Event
   Region : Place → List ℕ → Event
@@ -37,20 +52,22 @@ pub data Event : Type 0 where
   Joined : Event
   Opens : Around → Event
   Closes : Event
+  Makes : Piece → Event
 
--- rules, each with references to memory or without
+-- rules of expressions, each with references to memory or without; those of an operand differ at their first token
 pub data Name : Type 0 where
   Sum Product Unary Power Primary : Bool → Name
+  OperandSum OperandProduct OperandUnary OperandPower OperandPrimary : Name
 
 -- the sorts that may stand in a place
 abbrev pub accepts : Class → Sort → Bool
-accepts class.Number s = is_sort s sort.Whole || is_sort s sort.Decimal
+accepts class.Number s = is_sort s sort.Zero || (is_sort s sort.Whole || is_sort s sort.Decimal)
 accepts class.Imaginary s = is_sort s sort.Imaginary
 accepts class.Pi s = is_sort s sort.Pi
 accepts class.I s = is_sort s sort.I
 accepts class.Parameter s = is_sort s sort.Parameter
-accepts (class.Region refs) s = is_sort s sort.Name && refs
-accepts class.Index s = is_sort s sort.Whole
+accepts (class.Region refs) s = is_name s && refs
+accepts class.Index s = is_whole s
 accepts class.Function s = is_sort s sort.Sqrt || (is_sort s sort.Sin || (is_sort s sort.Cos || (is_sort s sort.Cis || is_sort s sort.Exp)))
 accepts class.Additive s = is_sort s sort.Plus || is_sort s sort.Minus
 accepts class.Sign s = is_sort s sort.Plus || is_sort s sort.Minus
@@ -61,6 +78,48 @@ accepts class.ArgumentBegins s = is_sort s sort.LeftParenthesis
 accepts class.ParenthesisEnds s = is_sort s sort.RightParenthesis
 accepts class.IndexBegins s = is_sort s sort.LeftBracket
 accepts class.IndexEnds s = is_sort s sort.RightBracket
+accepts class.Declare s = is_sort s sort.Declare
+accepts class.CellType s = is_sort s sort.Bit || (is_sort s sort.Octet || (is_sort s sort.Integer || is_sort s sort.Real))
+accepts class.Length s = is_sort s sort.Whole
+accepts class.Sharing s = is_sort s sort.Sharing
+accepts class.Offset s = is_sort s sort.Offset
+accepts class.OffsetCount s = is_sort s sort.Zero || is_sort s sort.Whole
+accepts class.Named s = is_name s
+accepts class.DefGate s = is_sort s sort.DefGate
+accepts class.As s = is_sort s sort.As
+accepts class.Matrix s = is_sort s sort.Matrix
+accepts class.Permutation s = is_sort s sort.Permutation
+accepts class.LeftOutForm s = is_sort s sort.LeftOutForm
+accepts class.DefCircuit s = is_sort s sort.DefCircuit
+accepts class.Colon s = is_sort s sort.Colon
+accepts class.Comma s = is_sort s sort.Comma
+accepts class.ListBegins s = is_sort s sort.LeftParenthesis
+accepts class.ListEnds s = is_sort s sort.RightParenthesis
+accepts class.TakenParameter s = is_sort s sort.Parameter || is_sort s sort.Unknown
+accepts class.Entry s = is_sort s sort.Zero || is_sort s sort.Whole
+accepts class.Modifier s = is_sort s sort.Controlled || is_sort s sort.Dagger
+accepts class.Forked s = is_sort s sort.Forked
+accepts class.FifthForked s = is_sort s sort.Forked
+accepts class.Gate s = is_sort s sort.Name || is_sort s sort.LeftOutForm
+accepts class.Qubit s = is_whole s || is_sort s sort.Formal
+accepts class.Measure s = is_sort s sort.Measure
+accepts class.Reset s = is_sort s sort.Reset
+accepts class.Bare s = is_sort s sort.Wait || (is_sort s sort.Nop || is_sort s sort.Halt)
+accepts class.Pragma s = is_sort s sort.Pragma
+accepts class.Any s = not (is_sort s sort.Semicolon) && not (is_sort s sort.Bad)
+accepts class.LabelWord s = is_sort s sort.LabelWord || is_sort s sort.Jump
+accepts class.JumpIf s = is_sort s sort.JumpWhen || is_sort s sort.JumpUnless
+accepts class.Label s = is_sort s sort.Label
+accepts class.UnaryWord s = is_sort s sort.Not || is_sort s sort.Neg
+accepts class.PairWord s = is_sort s sort.Exchange || is_sort s sort.Convert
+accepts class.BinaryWord s = is_sort s sort.Move || (is_sort s sort.Add || (is_sort s sort.Sub || (is_sort s sort.Mul || (is_sort s sort.Div || (is_sort s sort.And || (is_sort s sort.Ior || is_sort s sort.Xor))))))
+accepts class.Load s = is_sort s sort.Load
+accepts class.Store s = is_sort s sort.Store
+accepts class.CompareWord s = is_sort s sort.Eq || (is_sort s sort.Gt || (is_sort s sort.Ge || (is_sort s sort.Lt || is_sort s sort.Le)))
+accepts class.LeftOut s = is_sort s sort.LeftOut
+accepts class.Nothing s = false
+accepts class.OperandNumber s = is_sort s sort.Zero || (is_sort s sort.Whole || is_sort s sort.Decimal)
+accepts class.OperandSign s = is_sort s sort.Plus || is_sort s sort.Minus
 
 abbrev pub sign_of : Sort → Sign
 sign_of s = if is_sort s sort.Plus then Positive else Negative
@@ -71,6 +130,10 @@ operator_of s = if is_sort s sort.Plus then Add else (if is_sort s sort.Minus th
 abbrev pub function_of : Sort → Function
 function_of s = if is_sort s sort.Sqrt then function.Sqrt else (if is_sort s sort.Sin then function.Sin else (if is_sort s sort.Cos then function.Cos else (if is_sort s sort.Cis then function.Cis else function.Exp)))
 
+-- `0` to `9`
+abbrev pub is_digit : ℕ → Bool
+is_digit b = not (nat_lt b 48) && nat_lt b 58
+
 -- the number that decimal digits write behind those of n
 abbrev pub value_behind : ℕ → List ℕ → ℕ
 value_behind n [] = n
@@ -79,6 +142,18 @@ value_behind n (b ∷ bs) = value_behind (n * 10 + (b - 48)) bs
 -- the whole number that digits write
 abbrev pub whole_of : List ℕ → Whole
 whole_of digits = record { digits = digits; value = value_behind 0 digits }
+
+-- a word
+abbrev pub said : Class → Token → List Event
+said c t = Makes (Says t.place c t.sort) ∷ []
+
+-- a name where it stands
+abbrev pub name_at : Token → Called
+name_at t = record { place = t.place; text = t.text }
+
+-- a qubit: a formal one by its name, else by its index
+abbrev pub qubit_at : Token → Qubit
+qubit_at t = if is_sort t.sort sort.Formal then qubit.Formal (name_at t) else qubit.Index t.place (whole_of t.text)
 
 -- what a token makes
 abbrev pub value_of : Class → Token → List Event
@@ -99,10 +174,79 @@ value_of class.ArgumentBegins t = []
 value_of class.ParenthesisEnds t = []
 value_of class.IndexBegins t = []
 value_of class.IndexEnds t = []
+value_of class.Declare t = said class.Declare t
+value_of class.CellType t = said class.CellType t
+value_of class.Length t = Makes (Counts (whole_of t.text)) ∷ []
+value_of class.Sharing t = []
+value_of class.Offset t = []
+value_of class.OffsetCount t = Makes (Counts (whole_of t.text)) ∷ []
+value_of class.Named t = Makes (Names (name_at t)) ∷ []
+value_of class.DefGate t = said class.DefGate t
+value_of class.As t = []
+value_of class.Matrix t = []
+value_of class.Permutation t = said class.Permutation t
+value_of class.LeftOutForm t = []
+value_of class.DefCircuit t = said class.DefCircuit t
+value_of class.Colon t = []
+value_of class.Comma t = []
+value_of class.ListBegins t = []
+value_of class.ListEnds t = []
+value_of class.TakenParameter t = Makes (Takes (name_at t)) ∷ []
+value_of class.Entry t = Makes (Keeps t.text) ∷ []
+value_of class.Modifier t = said class.Modifier t
+value_of class.Forked t = said class.Forked t
+value_of class.FifthForked t = []
+value_of class.Gate t = Makes (Names (name_at t)) ∷ []
+value_of class.Qubit t = Makes (Acts (qubit_at t)) ∷ []
+value_of class.Measure t = said class.Measure t
+value_of class.Reset t = said class.Reset t
+value_of class.Bare t = said class.Bare t
+value_of class.Pragma t = said class.Pragma t
+value_of class.Any t = Makes (Keeps t.text) ∷ []
+value_of class.LabelWord t = said class.LabelWord t
+value_of class.JumpIf t = said class.JumpIf t
+value_of class.Label t = Makes (Names (name_at t)) ∷ []
+value_of class.UnaryWord t = said class.UnaryWord t
+value_of class.PairWord t = said class.PairWord t
+value_of class.BinaryWord t = said class.BinaryWord t
+value_of class.Load t = said class.Load t
+value_of class.Store t = said class.Store t
+value_of class.CompareWord t = said class.CompareWord t
+value_of class.LeftOut t = []
+value_of class.Nothing t = []
+value_of class.OperandNumber t = Stands t.place (atom.Number t.text) ∷ []
+value_of class.OperandSign t = Opens (Signed t.place (sign_of t.sort)) ∷ []
 
--- an index of 2^64 or more is too large
+-- a whole number of 2^64 or more
+abbrev pub is_wide : Token → Bool
+is_wide t = not (nat_lt (value_behind 0 t.text) (2 ^ 64))
+
+-- an operator comes next
+abbrev pub is_operator_next : List Token → Bool
+is_operator_next [] = false
+is_operator_next (t ∷ ts) = accepts class.Additive t.sort || (accepts class.Multiplicative t.sort || accepts class.Caret t.sort)
+
+-- a number written by digits alone
+abbrev pub is_whole_number : Token → Bool
+is_whole_number t = accepts class.Number t.sort && list_all is_digit t.text
+
+-- a whole number of 2^64 or more comes next, and no operator behind it
+abbrev pub is_wide_whole_next : List Token → Bool
+is_wide_whole_next [] = false
+is_wide_whole_next (t ∷ ts) = is_whole_number t && (is_wide t && not (is_operator_next ts))
+
+-- Which tokens are too large for their places: numbers, and an operand that is a number and nothing more; words that are
+-- left out are taken in their places and always too much there.
 abbrev pub is_too_large : Class → Token → List Token → Bool
-is_too_large class.Index t behind = not (nat_lt (value_behind 0 t.text) (2 ^ 64))
+is_too_large class.Index t behind = is_wide t
+is_too_large class.Length t behind = is_wide t
+is_too_large class.OffsetCount t behind = is_wide t
+is_too_large class.Qubit t behind = is_whole t.sort && not (nat_lt (value_behind 0 t.text) 65536)
+is_too_large class.OperandNumber t behind = is_wide_whole_next (t ∷ behind)
+is_too_large class.OperandSign t behind = is_wide_whole_next behind
+is_too_large class.LeftOut t behind = true
+is_too_large class.LeftOutForm t behind = true
+is_too_large class.FifthForked t behind = true
 is_too_large _ t behind = false
 
 -- terms behind the first
@@ -144,13 +288,20 @@ body_of (Product refs) = Seq (Rule (Unary refs)) (more_factors refs)
 body_of (Unary refs) = Or (signed refs) (Rule (Power refs))
 body_of (Power refs) = Seq (Rule (Primary refs)) (exponent refs)
 body_of (Primary refs) = primary refs
+body_of OperandSum = Seq (Rule OperandProduct) (more_terms false)
+body_of OperandProduct = Seq (Rule OperandUnary) (more_factors false)
+body_of OperandUnary = Or (Seq (One class.OperandSign) (Seq (Rule (Unary false)) (Emit Closes))) (Rule OperandPower)
+body_of OperandPower = Seq (Rule OperandPrimary) (exponent false)
+body_of OperandPrimary = Or (One class.OperandNumber) (Or (One class.Imaginary) (Or (One class.Pi) (Or (One class.I) (Or (One class.Parameter)
+    (Or (Seq (One class.Function) (Seq (One class.ArgumentBegins) (parenthesized false))) (Seq (One class.Parenthesis) (parenthesized false)))))))
 
 unfoldable pub quil : Grammar Class Event Name Sort Token
 quil = record { kind = λ t. t.sort; accepts = accepts; value = value_of; is_large = is_too_large; body = body_of }
 
 -- all rules
 abbrev pub names : List Name
-names = Primary false ∷ Power false ∷ Unary false ∷ Product false ∷ Sum false ∷ Primary true ∷ Power true ∷ Unary true ∷ Product true ∷ Sum true ∷ []
+names = Primary false ∷ Power false ∷ Unary false ∷ Product false ∷ Sum false ∷ Primary true ∷ Power true ∷ Unary true ∷ Product true ∷ Sum true
+    ∷ OperandPrimary ∷ OperandPower ∷ OperandUnary ∷ OperandProduct ∷ OperandSum ∷ []
 
 abbrev pub name_number : Name → ℕ
 name_number (Primary refs) = if refs then 5 else 0
@@ -158,6 +309,11 @@ name_number (Power refs) = if refs then 6 else 1
 name_number (Unary refs) = if refs then 7 else 2
 name_number (Product refs) = if refs then 8 else 3
 name_number (Sum refs) = if refs then 9 else 4
+name_number OperandPrimary = 10
+name_number OperandPower = 11
+name_number OperandUnary = 12
+name_number OperandProduct = 13
+name_number OperandSum = 14
 
 pub name_is_listed : (r : Name) → slice_get names (name_number r) ≡ Some r
 name_is_listed (Primary true) = refl
@@ -170,6 +326,11 @@ name_is_listed (Product true) = refl
 name_is_listed (Product false) = refl
 name_is_listed (Sum true) = refl
 name_is_listed (Sum false) = refl
+name_is_listed OperandPrimary = refl
+name_is_listed OperandPower = refl
+name_is_listed OperandUnary = refl
+name_is_listed OperandProduct = refl
+name_is_listed OperandSum = refl
 
 -- a rule begins with rules of less rank
 abbrev pub rank_of : Name → ℕ
@@ -178,25 +339,41 @@ rank_of (Power refs) = 1
 rank_of (Unary refs) = 2
 rank_of (Product refs) = 3
 rank_of (Sum refs) = 4
+rank_of OperandPrimary = 0
+rank_of OperandPower = 1
+rank_of OperandUnary = 2
+rank_of OperandProduct = 3
+rank_of OperandSum = 4
 
 -- the sorts that may open a primary
 abbrev pub opens_primary : Bool → Sort → Bool
 opens_primary refs s = accepts class.Number s || (accepts class.Imaginary s || (accepts class.Pi s || (accepts class.I s || (accepts class.Parameter s
     || (accepts (class.Region refs) s || (accepts class.Function s || accepts class.Parenthesis s))))))
 
+-- which sorts may open a rule; this, and what may follow it, need only cover the truth, and the condition checks that they do
 abbrev pub opens_rule : Name → Sort → Bool
 opens_rule (Primary refs) s = opens_primary refs s
 opens_rule (Power refs) s = opens_primary refs s
 opens_rule (Unary refs) s = opens_primary refs s || accepts class.Sign s
 opens_rule (Product refs) s = opens_primary refs s || accepts class.Sign s
 opens_rule (Sum refs) s = opens_primary refs s || accepts class.Sign s
+opens_rule OperandPrimary s = opens_primary false s
+opens_rule OperandPower s = opens_primary false s
+opens_rule OperandUnary s = opens_primary false s || accepts class.Sign s
+opens_rule OperandProduct s = opens_primary false s || accepts class.Sign s
+opens_rule OperandSum s = opens_primary false s || accepts class.Sign s
 
 abbrev pub follows_rule : Name → Sort → Bool
-follows_rule (Sum refs) s = accepts class.ParenthesisEnds s
-follows_rule (Product refs) s = accepts class.ParenthesisEnds s || accepts class.Additive s
-follows_rule (Unary refs) s = accepts class.ParenthesisEnds s || (accepts class.Additive s || accepts class.Multiplicative s)
-follows_rule (Power refs) s = accepts class.ParenthesisEnds s || (accepts class.Additive s || accepts class.Multiplicative s)
-follows_rule (Primary refs) s = accepts class.ParenthesisEnds s || (accepts class.Additive s || (accepts class.Multiplicative s || accepts class.Caret s))
+follows_rule (Sum refs) s = accepts class.ParenthesisEnds s || accepts class.Comma s
+follows_rule (Product refs) s = accepts class.ParenthesisEnds s || (accepts class.Comma s || (accepts class.Additive s))
+follows_rule (Unary refs) s = accepts class.ParenthesisEnds s || (accepts class.Comma s || ((accepts class.Additive s || accepts class.Multiplicative s)))
+follows_rule (Power refs) s = accepts class.ParenthesisEnds s || (accepts class.Comma s || ((accepts class.Additive s || accepts class.Multiplicative s)))
+follows_rule (Primary refs) s = accepts class.ParenthesisEnds s || (accepts class.Comma s || ((accepts class.Additive s || (accepts class.Multiplicative s || accepts class.Caret s))))
+follows_rule OperandSum s = false
+follows_rule OperandProduct s = accepts class.Additive s
+follows_rule OperandUnary s = accepts class.Additive s || accepts class.Multiplicative s
+follows_rule OperandPower s = accepts class.Additive s || accepts class.Multiplicative s
+follows_rule OperandPrimary s = accepts class.Additive s || (accepts class.Multiplicative s || accepts class.Caret s)
 
 unfoldable pub tables : Tables Name Sort
 tables =

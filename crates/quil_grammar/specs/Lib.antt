@@ -1,7 +1,10 @@
 pub mod Sort
 pub mod Token
 pub mod Grammar
+pub mod Statements
 pub mod Written
+pub mod Parts
 pub mod Frames
 pub mod Answer
 pub mod Told
+pub mod Literals

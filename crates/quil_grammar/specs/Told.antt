@@ -42,4 +42,5 @@ Tells text (Err fault.OutOfMemory) = Unit {0}
 Tells text (Err (fault.NumberTooWide line column)) = Told text (Err (fault.NumberTooWide line column))
 Tells text (Err (fault.BadToken line column)) = Told text (Err (fault.BadToken line column))
 Tells text (Err (fault.Unexpected line column)) = Told text (Err (fault.Unexpected line column))
+Tells text (Err (fault.LeftOut line word)) = ⊥
 Tells text (Err (fault.TextTooLong n)) = ⊥

@@ -5,7 +5,9 @@ ghost use Rattle.quil_shape.specs.Condition.{is_decided_by_one_token};
 ghost use Rattle.quil_shape.specs.Shape.Shape.{Rule};
 ghost use Rattle.quil_tree.specs.declared.expr.Step.{Step};
 ghost use Rattle.quil_grammar.specs.Grammar.{quil, tables, Sum};
+ghost use Rattle.quil_grammar.specs.Statements.{top_level, statement, matrix_row, permutation_row, nowhere, nothing};
 ghost use Rattle.quil_grammar.specs.Written.{Written, events};
+ghost use Rattle.quil_grammar.specs.Parts.{Part, parts_events};
 ghost use Rattle.quil_grammar.specs.Answer.{IsExpressionOf, IsFault};
 ghost use Rattle.quil_grammar.specs.declared.fault.ReadFault as fault;
 ghost use Rattle.quil_grammar.specs.declared.fault.ReadFault.TheVariants.{OutOfMemory};
@@ -16,10 +18,27 @@ pub fn one_token_decides()
     ensures { IsTrue (is_decided_by_one_token quil tables (Rule (Sum true))) }
 {}
 
+/// One token decides each choice in the statements of Quil, in its definitions and in their rows.
+#[tactic(auto, unfolding(crate::specs::Grammar::quil, crate::specs::Grammar::tables))]
+pub fn one_token_decides_statements()
+    ensures top_level { IsTrue (is_decided_by_one_token quil tables top_level) }
+    ensures statement { IsTrue (is_decided_by_one_token quil tables statement) }
+    ensures matrix_row { IsTrue (is_decided_by_one_token quil tables matrix_row) }
+    ensures permutation_row { IsTrue (is_decided_by_one_token quil tables permutation_row) }
+    ensures nowhere { IsTrue (is_decided_by_one_token quil tables nowhere) }
+    ensures nothing { IsTrue (is_decided_by_one_token quil tables nothing) }
+{}
+
 /// What reading makes is that of one written expression alone.
 #[tactic(auto, using(crate::proofs::Writings::same_written))]
 pub fn one_writing()
     ensures { (w v : Written) → events w ≡ events v → w ≡ v }
+{}
+
+/// What reading a line makes is that of one list of parts alone.
+#[tactic(auto, using(crate::proofs::Parts::same_parts))]
+pub fn one_list_of_parts()
+    ensures { (ps qs : List Part) → parts_events ps ≡ parts_events qs → ps ≡ qs }
 {}
 
 /// A text is at most one expression, and has at most one fault beside want of memory, never both.

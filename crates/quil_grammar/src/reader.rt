@@ -6,8 +6,9 @@ ghost use Rattle.quil_shape.specs.Reads.{Advances};
 ghost use Rattle.quil_grammar.specs.Token.{Token};
 ghost use Rattle.quil_grammar.specs.Grammar.{quil, tables, accepts, sign_of, operator_of, function_of, Sum, Primary, index};
 ghost use Rattle.quil_grammar.specs.Grammar.Event.{Index};
-ghost use Rattle.quil_grammar.specs.Written.{events_of_atom};
-ghost use Rattle.quil_grammar.specs.Frames.{is_next, Stands, GoesToStand, StopsFor, Holds, IsRead};
+ghost use Rattle.quil_grammar.specs.Written.{events_of_atom, cell_events};
+ghost use Rattle.quil_grammar.specs.Statements.{address};
+ghost use Rattle.quil_grammar.specs.Frames.{is_next, Stands, GoesToStand, StopsFor, Holds, IsRead, IsFormulaRead};
 ghost use Rattle.quil_grammar.specs.declared.class.Class.{Class};
 
 use crate::class::Class;
@@ -15,8 +16,12 @@ use crate::sort::Sort;
 use crate::stop::Stop;
 use crate::token::Token;
 use crate::value::value_of;
-use quil_tree::{Action, Address, Atom, Expr, Function, Operator, Place, Sign, Step, Text, Whole};
+use quil_tree::{
+    Action, Address, Atom, Expr, Formula, Function, Operator, Place, Reference, Sign, Step, Text,
+    Whole,
+};
 use std::alloc::Global;
+use std::mem::replace;
 
 /// What is still to read, behind an operand.
 #[derive(Clone, Copy)]
@@ -37,21 +42,22 @@ pub(crate) enum Todo {
     Argument(Place, Function),
 }
 
-/// A reader of an expression.
+/// A reader of tokens. Where it stops it is left at the token.
 #[derive(Drop)]
-pub(crate) struct Reader<'a, 'b> {
-    pub(crate) rest: &'b [Token<'a>],
+pub struct Reader<'a, 'b> {
+    /// The tokens that are left.
+    pub rest: &'b [Token<'a>],
     // Whether a cell of memory may stand in the expression.
-    pub(crate) references: bool,
-    // The steps so far.
-    pub(crate) steps: Vec<Step>,
-    // What is still to read, the innermost last.
-    pub(crate) todo: Vec<Todo>,
+    references: bool,
+    // The steps of an expression so far.
+    steps: Vec<Step>,
+    // What is still to read of it, the innermost last.
+    todo: Vec<Todo>,
     // Where the operand that was read last begins.
-    pub(crate) start: Place,
+    start: Place,
 }
 
-fn sign_of(sort: Sort) -> Sign
+pub(crate) fn sign_of(sort: Sort) -> Sign
     ensures { result ≡ sign_of sort }
 {
     if sort.is(Sort::Plus) {
@@ -94,9 +100,22 @@ fn function_of(sort: Sort) -> Function
 }
 
 impl<'a, 'b> Reader<'a, 'b> {
-    // The next token, where it may stand in the place.
+    /// A reader of these tokens.
+    pub fn new(alloc: Global, tokens: &'b [Token<'a>]) -> Reader<'a, 'b>
+        ensures { result.rest.now ≡ tokens.now }
+    {
+        Reader {
+            rest: tokens,
+            references: true,
+            steps: Vec::new(alloc),
+            todo: Vec::new(alloc),
+            start: Place { line: 1, column: 1 },
+        }
+    }
+
+    /// The next token, where it may stand in the place.
     #[tactic(auto, unfolding(crate::specs::Grammar::quil))]
-    fn next(&self, class: Class) -> Option<&'b Token<'a>>
+    pub fn next(&self, class: Class) -> Option<&'b Token<'a>>
         ensures some { IfSome result (λ token. (self.now.rest.now ≡ token.now ∷ drop 1 self.now.rest.now) × IsTrue (accepts class token.now.sort)) }
         ensures none { IfNone result (IsFalse (is_next class self.now.rest.now)) }
     {
@@ -108,8 +127,8 @@ impl<'a, 'b> Reader<'a, 'b> {
         }
     }
 
-    // Moves behind the next token.
-    fn skip(&mut self)
+    /// Moves behind the next token.
+    pub fn skip(&mut self)
         requires { 0 < length self.old.rest.now }
         ensures rest { self.new.rest.now ≡ drop 1 self.old.rest.now }
         ensures references { self.new.references ≡ self.old.references }
@@ -120,8 +139,8 @@ impl<'a, 'b> Reader<'a, 'b> {
         self.rest = &self.rest[1..];
     }
 
-    // Takes the next token, where it may stand in the place.
-    fn take(&mut self, class: Class) -> Option<&'b Token<'a>>
+    /// Takes the next token, where it may stand in the place.
+    pub fn take(&mut self, class: Class) -> Option<&'b Token<'a>>
         ensures some { IfSome result (λ token. (self.old.rest.now ≡ token.now ∷ self.new.rest.now) × IsTrue (accepts class token.now.sort)) }
         ensures none { IfNone result (IsFalse (is_next class self.old.rest.now) × (self.new.rest.now ≡ self.old.rest.now)) }
         ensures references { self.new.references ≡ self.old.references }
@@ -161,6 +180,23 @@ impl<'a, 'b> Reader<'a, 'b> {
             return Err(Stop::Unexpected);
         };
         Ok(Whole { digits, value })
+    }
+
+    /// Reads a memory reference.
+    #[tactic(auto, using(crate::proofs::Addresses::address_read, crate::proofs::Addresses::address_stops, crate::proofs::Addresses::no_address))]
+    pub fn reference(&mut self, alloc: Global) -> Result<Reference, Stop>
+        ensures ok { IfOk result (λ a. Advances quil tables address self.old.rest.now self.new.rest.now (cell_events a)) }
+        ensures err { IfErr result (λ e. StopsFor e address self.old.rest.now self.new.rest.now) }
+    {
+        let Some(token) = self.take(Class::Region(true)) else {
+            return Err(Stop::Unexpected);
+        };
+        let region = Text::new(alloc, token.text())?;
+        let index = self.index(alloc)?;
+        Ok(Reference {
+            place: token.place(),
+            address: Address { region, index },
+        })
     }
 
     // Reads a number, a constant, a parameter or a cell.
@@ -325,7 +361,7 @@ impl<'a, 'b> Reader<'a, 'b> {
     fn run(&mut self, alloc: Global) -> Result<(), Stop>
         requires no_steps { self.old.steps.items ≡ [] }
         requires no_todo { self.old.todo.items ≡ [] }
-        ensures ok { OnOk result (IsRead self.old.references self.old.rest.now self.new.rest.now self.new.steps.items) }
+        ensures ok { OnOk result (IsFormulaRead self.old.references self.old.rest.now self.new.rest.now (record { place = self.new.start; expr = self.new.steps.items })) }
         ensures err { IfErr result (λ e. StopsFor e (Rule (Sum self.old.references)) self.old.rest.now self.new.rest.now) }
     {
         self.todo.push(Todo::Terms)?;
@@ -342,10 +378,29 @@ impl<'a, 'b> Reader<'a, 'b> {
             }
         }
     }
+
+    /// Reads an expression, in which memory references may stand or not.
+    #[tactic(auto, using(crate::proofs::Expressions::formula_within))]
+    pub fn formula(&mut self, alloc: Global, references: bool) -> Result<Formula, Stop>
+        ensures ok { IfOk result (λ f. IsFormulaRead references self.old.rest.now self.new.rest.now f) }
+        ensures err { IfErr result (λ e. StopsFor e (Rule (Sum references)) self.old.rest.now self.new.rest.now) }
+        ensures within { OnOk result (length self.new.rest.now ≤ length self.old.rest.now) }
+    {
+        self.references = references;
+        self.steps = Vec::new(alloc);
+        self.todo = Vec::new(alloc);
+        self.run(alloc)?;
+        let steps = replace(&mut self.steps, Vec::new(alloc));
+        Ok(Formula {
+            place: self.start,
+            expr: Expr::new(steps),
+        })
+    }
 }
 
 /// Reads an expression from the front of the tokens, and tells what stands behind it, or where reading stopped.
-pub(crate) fn expression<'a, 'b>(
+#[tactic(auto, using(crate::proofs::Expressions::steps_read))]
+pub fn expression<'a, 'b>(
     alloc: Global,
     tokens: &'b [Token<'a>],
     references: bool,
@@ -354,15 +409,9 @@ pub(crate) fn expression<'a, 'b>(
     ensures err { IfErr result.0 (λ e. StopsFor e (Rule (Sum references)) tokens.entry.now result.1.now) }
     ensures large { result.0 ≡ Err Stop.TooLarge → 0 < length result.1.now }
 {
-    let mut reader = Reader {
-        rest: tokens,
-        references,
-        steps: Vec::new(alloc),
-        todo: Vec::new(alloc),
-        start: Place { line: 1, column: 1 },
-    };
-    match reader.run(alloc) {
-        Ok(()) => (Ok(Expr::new(reader.steps)), reader.rest),
+    let mut reader = Reader::new(alloc, tokens);
+    match reader.formula(alloc, references) {
+        Ok(formula) => (Ok(formula.expr), reader.rest),
         Err(stop) => (Err(stop), reader.rest),
     }
 }

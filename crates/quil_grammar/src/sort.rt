@@ -1,6 +1,7 @@
 //! Sorts of tokens: what the grammar tells apart.
 
-ghost use Rattle.std.specs.Prelude.{◌≡◌, map};
+ghost use Rattle.std.specs.Prelude.{◌≡◌, ◌==◌, map};
+ghost use Rattle.std.specs.List.{list_all};
 ghost use Rattle.quil_grammar.specs.Sort.{sort_among, sort_of, sort_of_mark, word_sort};
 
 use quil_lex::{Kind, Mark};
@@ -11,8 +12,56 @@ use quil_lex::{Kind, Mark};
 pub enum Sort {
     /// A name that the language doesn't keep for itself.
     Name,
-    /// A word of the language that stands in no expression.
-    Reserved,
+    /// A word that is left out of the language: no statement begins with it, and it is a name elsewhere.
+    LeftOut,
+    /// A form of a gate that is left out: it doesn't stand behind `AS`, and is a name elsewhere.
+    LeftOutForm,
+    /// A name that stands for a qubit of the circuit whose body is read.
+    Formal,
+    Declare,
+    Bit,
+    Octet,
+    Integer,
+    Real,
+    Sharing,
+    Offset,
+    DefGate,
+    As,
+    Matrix,
+    Permutation,
+    DefCircuit,
+    Controlled,
+    Dagger,
+    Forked,
+    Measure,
+    Reset,
+    Wait,
+    Nop,
+    Halt,
+    Pragma,
+    LabelWord,
+    Jump,
+    JumpWhen,
+    JumpUnless,
+    Not,
+    Neg,
+    Exchange,
+    Convert,
+    Move,
+    Add,
+    Sub,
+    Mul,
+    Div,
+    And,
+    Ior,
+    Xor,
+    Load,
+    Store,
+    Eq,
+    Gt,
+    Ge,
+    Lt,
+    Le,
     Pi,
     I,
     Sqrt,
@@ -20,11 +69,16 @@ pub enum Sort {
     Cos,
     Cis,
     Exp,
+    /// A whole number that is 0.
+    Zero,
+    /// A whole number that isn't 0.
     Whole,
     Decimal,
     Imaginary,
     Str,
     Parameter,
+    /// A parameter that isn't known where it stands.
+    Unknown,
     Label,
     LeftParenthesis,
     RightParenthesis,
@@ -42,8 +96,8 @@ pub enum Sort {
     Bad,
 }
 
-/// The words of the language, each with its sort.
-const WORDS: [(&[u8], Sort); 51] = [
+/// The words of the language, and those that it leaves out, each with its sort.
+const WORDS: [(&[u8], Sort); 65] = [
     (b"pi", Sort::Pi),
     (b"i", Sort::I),
     (b"sqrt", Sort::Sqrt),
@@ -51,50 +105,64 @@ const WORDS: [(&[u8], Sort); 51] = [
     (b"cos", Sort::Cos),
     (b"cis", Sort::Cis),
     (b"exp", Sort::Exp),
-    (b"DECLARE", Sort::Reserved),
-    (b"BIT", Sort::Reserved),
-    (b"OCTET", Sort::Reserved),
-    (b"INTEGER", Sort::Reserved),
-    (b"REAL", Sort::Reserved),
-    (b"SHARING", Sort::Reserved),
-    (b"OFFSET", Sort::Reserved),
-    (b"DEFGATE", Sort::Reserved),
-    (b"AS", Sort::Reserved),
-    (b"MATRIX", Sort::Reserved),
-    (b"PERMUTATION", Sort::Reserved),
-    (b"DEFCIRCUIT", Sort::Reserved),
-    (b"CONTROLLED", Sort::Reserved),
-    (b"DAGGER", Sort::Reserved),
-    (b"FORKED", Sort::Reserved),
-    (b"MEASURE", Sort::Reserved),
-    (b"RESET", Sort::Reserved),
-    (b"WAIT", Sort::Reserved),
-    (b"NOP", Sort::Reserved),
-    (b"HALT", Sort::Reserved),
-    (b"PRAGMA", Sort::Reserved),
-    (b"LABEL", Sort::Reserved),
-    (b"JUMP", Sort::Reserved),
-    (b"JUMP-WHEN", Sort::Reserved),
-    (b"JUMP-UNLESS", Sort::Reserved),
-    (b"NOT", Sort::Reserved),
-    (b"NEG", Sort::Reserved),
-    (b"EXCHANGE", Sort::Reserved),
-    (b"CONVERT", Sort::Reserved),
-    (b"MOVE", Sort::Reserved),
-    (b"ADD", Sort::Reserved),
-    (b"SUB", Sort::Reserved),
-    (b"MUL", Sort::Reserved),
-    (b"DIV", Sort::Reserved),
-    (b"AND", Sort::Reserved),
-    (b"IOR", Sort::Reserved),
-    (b"XOR", Sort::Reserved),
-    (b"LOAD", Sort::Reserved),
-    (b"STORE", Sort::Reserved),
-    (b"EQ", Sort::Reserved),
-    (b"GT", Sort::Reserved),
-    (b"GE", Sort::Reserved),
-    (b"LT", Sort::Reserved),
-    (b"LE", Sort::Reserved),
+    (b"DECLARE", Sort::Declare),
+    (b"BIT", Sort::Bit),
+    (b"OCTET", Sort::Octet),
+    (b"INTEGER", Sort::Integer),
+    (b"REAL", Sort::Real),
+    (b"SHARING", Sort::Sharing),
+    (b"OFFSET", Sort::Offset),
+    (b"DEFGATE", Sort::DefGate),
+    (b"AS", Sort::As),
+    (b"MATRIX", Sort::Matrix),
+    (b"PERMUTATION", Sort::Permutation),
+    (b"DEFCIRCUIT", Sort::DefCircuit),
+    (b"CONTROLLED", Sort::Controlled),
+    (b"DAGGER", Sort::Dagger),
+    (b"FORKED", Sort::Forked),
+    (b"MEASURE", Sort::Measure),
+    (b"RESET", Sort::Reset),
+    (b"WAIT", Sort::Wait),
+    (b"NOP", Sort::Nop),
+    (b"HALT", Sort::Halt),
+    (b"PRAGMA", Sort::Pragma),
+    (b"LABEL", Sort::LabelWord),
+    (b"JUMP", Sort::Jump),
+    (b"JUMP-WHEN", Sort::JumpWhen),
+    (b"JUMP-UNLESS", Sort::JumpUnless),
+    (b"NOT", Sort::Not),
+    (b"NEG", Sort::Neg),
+    (b"EXCHANGE", Sort::Exchange),
+    (b"CONVERT", Sort::Convert),
+    (b"MOVE", Sort::Move),
+    (b"ADD", Sort::Add),
+    (b"SUB", Sort::Sub),
+    (b"MUL", Sort::Mul),
+    (b"DIV", Sort::Div),
+    (b"AND", Sort::And),
+    (b"IOR", Sort::Ior),
+    (b"XOR", Sort::Xor),
+    (b"LOAD", Sort::Load),
+    (b"STORE", Sort::Store),
+    (b"EQ", Sort::Eq),
+    (b"GT", Sort::Gt),
+    (b"GE", Sort::Ge),
+    (b"LT", Sort::Lt),
+    (b"LE", Sort::Le),
+    (b"INCLUDE", Sort::LeftOut),
+    (b"TRUE", Sort::LeftOut),
+    (b"FALSE", Sort::LeftOut),
+    (b"OR", Sort::LeftOut),
+    (b"DEFCAL", Sort::LeftOut),
+    (b"DEFFRAME", Sort::LeftOut),
+    (b"DEFWAVEFORM", Sort::LeftOut),
+    (b"PULSE", Sort::LeftOut),
+    (b"CAPTURE", Sort::LeftOut),
+    (b"RAW-CAPTURE", Sort::LeftOut),
+    (b"DELAY", Sort::LeftOut),
+    (b"FENCE", Sort::LeftOut),
+    (b"PAULI-SUM", Sort::LeftOutForm),
+    (b"SEQUENCE", Sort::LeftOutForm),
 ];
 
 // The sort of a word in a table.
@@ -135,14 +203,33 @@ fn sort_of_mark(mark: Mark) -> Sort
     }
 }
 
+// The digits write 0.
+fn is_zero(mut digits: &[u8]) -> bool
+    ensures { result ≡ list_all (λ b. b == 48) digits.entry.now }
+{
+    while let [digit, rest @ ..] = digits {
+        if *digit != b'0' {
+            return false;
+        }
+        digits = rest;
+    }
+    true
+}
+
 impl Sort {
     /// The sort of a token of a kind with these bytes.
-    pub(crate) fn of(kind: Kind, text: &[u8]) -> Sort
+    pub fn of(kind: Kind, text: &[u8]) -> Sort
         ensures { result ≡ sort_of kind text.now }
     {
         match kind {
             Kind::Name => word_sort(text),
-            Kind::Whole => Sort::Whole,
+            Kind::Whole => {
+                if is_zero(text) {
+                    Sort::Zero
+                } else {
+                    Sort::Whole
+                }
+            }
             Kind::Decimal => Sort::Decimal,
             Kind::Imaginary => Sort::Imaginary,
             Kind::Str => Sort::Str,

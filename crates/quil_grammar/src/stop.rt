@@ -7,11 +7,11 @@ use std::alloc::{AllocError, AllocFailed};
 
 /// Why reading stopped; the reader is left at the token.
 #[derive(Clone, Copy, Debug, PartialEq, Eq)]
-pub(crate) enum Stop {
+pub enum Stop {
     OutOfMemory,
-    /// No expression goes on with this token, or the tokens end too early.
+    /// Nothing that may stand there goes on with this token, or the tokens end too early.
     Unexpected,
-    /// The number is too large for its place.
+    /// The number is too large for its place, or the word is left out of the language there.
     TooLarge,
 }
 

@@ -1,5 +1,7 @@
-use crate::{ReadFault, parse_expr};
-use quil_tree::{Action, Atom, Expr, Function, Operator, Place, Sign};
+use crate::tokens::tokens_of;
+use crate::{ReadFault, Reader, Stop, parse_expr};
+use quil_lex::tokens_to_bad_byte;
+use quil_tree::{Action, Atom, Expr, Function, Operand, Operator, Place, Sign};
 use std::alloc::Global;
 use std::test::Fail;
 
@@ -144,11 +146,12 @@ fn reads_expressions(rt: HostRuntime) -> Result<(), Fail> {
         ),
     ];
     for (text, want) in rows {
-        let found = parse_expr(alloc, text);
-        assert!(rt; found.is_ok(), "{:?}", text);
-        if let Ok(expr) = found {
-            let shown = show(alloc, &expr)?;
-            assert!(rt; shown.as_slice() == want, "{:?}", text);
+        match parse_expr(alloc, text) {
+            Ok(expr) => {
+                let shown = show(alloc, &expr)?;
+                assert!(rt; shown.as_slice() == want, "{:?}", text);
+            }
+            Err(_fault) => assert!(rt; false, "{:?}", text),
         }
     }
     Ok(())
@@ -372,5 +375,115 @@ fn reads_deep_texts(rt: HostRuntime) -> Result<(), Fail> {
         nested.push(b')')?;
     }
     assert!(rt; parse_expr(alloc, &nested).is_ok());
+    Ok(())
+}
+
+// A literal as it is written, with its value, or the steps of a formula in parentheses; and the place.
+fn show_operand(alloc: Global, operand: &Operand) -> Result<Vec<u8>, Fail> {
+    let mut out = Vec::new(alloc);
+    let place = match operand {
+        Operand::Reference(reference) => reference.place,
+        Operand::Literal(place, sign, whole) => {
+            match sign {
+                Some(Sign::Plus) => out.push(b'+')?,
+                Some(Sign::Minus) => out.push(b'-')?,
+                None => {}
+            }
+            let value = whole.value;
+            out.extend_from_slice(whole.digits.as_bytes())?;
+            out.extend_from_slice(format!(in alloc; "={value}")?.as_bytes())?;
+            *place
+        }
+        Operand::Formula(formula) => {
+            out.push(b'(')?;
+            out.extend_from_slice(show(alloc, &formula.expr)?.as_slice())?;
+            out.push(b')')?;
+            formula.place
+        }
+    };
+    let Place { line, column } = place;
+    out.extend_from_slice(format!(in alloc; "@{line}:{column}")?.as_bytes())?;
+    Ok(out)
+}
+
+// Digits alone are a literal, with a sign or without; how many tokens are left behind each operand is told too.
+#[test]
+fn reads_operands(rt: HostRuntime) -> Result<(), Fail> {
+    let alloc = rt.alloc();
+    let rows: [(&[u8], &[u8], usize); 19] = [
+        (b"5", b"5=5@1:1", 0),
+        (b" 007", b"007=7@1:2", 0),
+        (b"0", b"0=0@1:1", 0),
+        (b"- 3", b"-3=3@1:1", 0),
+        (b"+3 4", b"+3=3@1:1", 1),
+        (b"5 ro", b"5=5@1:1", 1),
+        (b"5)", b"5=5@1:1", 1),
+        (
+            b"18446744073709551615",
+            b"18446744073709551615=18446744073709551615@1:1",
+            0,
+        ),
+        (b"(5)", b"(5@1:2)@1:1", 0),
+        (b"-(5)", b"(5@1:3 minus@1:1)@1:1", 0),
+        (b"--5", b"(5@1:3 minus@1:2 minus@1:1)@1:1", 0),
+        (b"1.5", b"(1.5@1:1)@1:1", 0),
+        (b"2e3", b"(2e3@1:1)@1:1", 0),
+        (b"5+1 2", b"(5@1:1 1@1:3 +@1:1)@1:1", 1),
+        (b"(5)^2", b"(5@1:2 2@1:5 ^@1:1)@1:1", 0),
+        (b"-5*2", b"(5@1:2 minus@1:1 2@1:4 *@1:1)@1:1", 0),
+        (
+            b"18446744073709551616^1",
+            b"(18446744073709551616@1:1 1@1:22 ^@1:1)@1:1",
+            0,
+        ),
+        (
+            b"(18446744073709551616)",
+            b"(18446744073709551616@1:2)@1:1",
+            0,
+        ),
+        (b"pi %a", b"(pi@1:1)@1:1", 1),
+    ];
+    for (text, want, left) in rows {
+        let lexemes = tokens_to_bad_byte(alloc, text)?;
+        let tokens = tokens_of(alloc, &lexemes)?;
+        let mut reader = Reader::new(alloc, &tokens);
+        let found = reader.value_operand(alloc);
+        let rest = reader.rest;
+        assert!(rt; found.is_ok(), "{:?}", text);
+        assert!(rt; rest.len() == left, "{:?}", text);
+        if let Ok(operand) = found {
+            let shown = show_operand(alloc, &operand)?;
+            assert!(rt; shown.as_slice() == want, "{:?}", text);
+        }
+    }
+    Ok(())
+}
+
+// Why no operand is read, and how many tokens are left where reading stopped.
+#[test]
+fn refuses_operands(rt: HostRuntime) -> Result<(), Fail> {
+    let alloc = rt.alloc();
+    let rows: [(&[u8], Stop, usize); 8] = [
+        (b"", Stop::Unexpected, 0),
+        (b"-", Stop::Unexpected, 0),
+        (b"ro", Stop::Unexpected, 1),
+        (b"1+ro[0]", Stop::Unexpected, 4),
+        (b"(1", Stop::Unexpected, 0),
+        (b"18446744073709551616", Stop::TooLarge, 1),
+        (b"-18446744073709551616", Stop::TooLarge, 2),
+        (b"+18446744073709551616 1", Stop::TooLarge, 3),
+    ];
+    for (text, want, left) in rows {
+        let lexemes = tokens_to_bad_byte(alloc, text)?;
+        let tokens = tokens_of(alloc, &lexemes)?;
+        let mut reader = Reader::new(alloc, &tokens);
+        let found = reader.value_operand(alloc);
+        let rest = reader.rest;
+        assert!(rt; rest.len() == left, "{:?}", text);
+        match found {
+            Ok(_) => assert!(rt; false, "{:?}", text),
+            Err(stop) => assert!(rt; stop == want, "{:?}", text),
+        }
+    }
     Ok(())
 }

@@ -9,7 +9,7 @@ use std::marker::Model;
 
 /// A token: its sort, its bytes, its place, and of a parameter its number.
 #[derive(Drop)]
-pub(crate) struct Token<'a> {
+pub struct Token<'a> {
     sort: Sort,
     text: &'a [u8],
     place: Place,
@@ -26,7 +26,7 @@ impl<'a> Model for Token<'a> {
 
 impl<'a> Token<'a> {
     /// A token of these parts.
-    pub(crate) fn new(sort: Sort, text: &'a [u8], place: Place, number: usize) -> Token<'a>
+    pub fn new(sort: Sort, text: &'a [u8], place: Place, number: usize) -> Token<'a>
         ensures { result ≡ record { sort = sort; text = text.now; place = place; number = number } }
     {
         Token {
@@ -38,28 +38,28 @@ impl<'a> Token<'a> {
     }
 
     /// Its sort.
-    pub(crate) fn sort(&self) -> Sort
+    pub fn sort(&self) -> Sort
         ensures { result ≡ self.now.sort }
     {
         self.sort
     }
 
     /// Its bytes.
-    pub(crate) fn text(&self) -> &'a [u8]
+    pub fn text(&self) -> &'a [u8]
         ensures { result.now ≡ self.now.text }
     {
         self.text
     }
 
     /// Its place.
-    pub(crate) fn place(&self) -> Place
+    pub fn place(&self) -> Place
         ensures { result ≡ self.now.place }
     {
         self.place
     }
 
     /// The number of a parameter.
-    pub(crate) fn number(&self) -> usize
+    pub fn number(&self) -> usize
         ensures { result ≡ self.now.number }
     {
         self.number

@@ -5,7 +5,7 @@ ghost use Rattle.quil_grammar.specs.Grammar.{value_behind};
 
 /// The number that decimal digits write, where it is below 2^64.
 #[tactic(auto, using(crate::proofs::Values::value_grows))]
-pub(crate) fn value_of(mut digits: &[u8]) -> Option<u64>
+pub fn value_of(mut digits: &[u8]) -> Option<u64>
     ensures found { IfSome result (λ n. n ≡ value_behind 0 digits.entry.now) }
     ensures large { IfNone result (2 ^ 64 ≤ value_behind 0 digits.entry.now) }
 {

@@ -6,4 +6,5 @@ use Rattle.quil_grammar.proofs.reader.expression.Goals as goal
 pub returns-clause-large : goal.returns-clause-large
 returns-clause-large c = λ e.
     let large : c.in-Err.stop ≡ stop.TooLarge = cc in
-    stop_stands c.args.references c.args.tokens.now c.run.new.self.rest.now c.in-Err.stop c.in-Err.ensures.err large
+    let stops = rw c.new-reader.ensures at c.in-Err.ensures.err in
+    stop_stands c.args.references c.args.tokens.now c.formula.new.self.rest.now c.in-Err.stop stops large
