@@ -1,0 +1,10 @@
+pub mod Tokens
+pub mod Sequences
+pub mod Operands
+pub mod Said
+pub mod Repeats
+pub mod Gates
+pub mod Declarations
+pub mod Definitions
+pub mod Choices
+pub mod Rows

@@ -1,0 +1,11 @@
+use Rattle.std.proofs.Common.{length}
+use Rattle.quil_shape.specs.Shape.Shape.{One}
+use Rattle.quil_grammar.specs.declared.class.Class.TheVariants as class
+use Rattle.quil_statement.specs.Loops.{taking, ListSoFar}
+use Rattle.quil_statement.proofs.parser.Parser.formals.Given as goal
+
+abbrev pub invariant-more : goal.invariant-more
+invariant-more l = ListSoFar (One class.TakenParameter) l.fn.self.tokens.rest.now l.self.tokens.rest.now (taking l.all)
+
+abbrev pub decreases-more : goal.decreases-more
+decreases-more l = length l.self.tokens.rest.now
