@@ -4,3 +4,6 @@ pub mod Regions
 pub mod Unique
 pub mod Results
 pub mod Texts
+pub mod Lines
+pub mod Programs
+pub mod Contexts

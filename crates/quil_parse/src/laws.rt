@@ -1,10 +1,14 @@
 //! What holds of every text.
 
-ghost use Rattle.std.specs.Prelude.{◌≡◌, ℕ, ◌==◌, List};
+ghost use Rattle.std.specs.Prelude.{◌≡◌, ◌≢◌, ℕ, ◌==◌, List};
 ghost use Rattle.std.specs.List.{join_with_byte};
 ghost use Rattle.qvm_step.specs.Program.{Program};
 ghost use Rattle.quil_parse.specs.Spelling.{Line, IsLine, spelled};
+ghost use Rattle.quil_tree.specs.declared.item.Item.{Item};
+ghost use Rattle.quil_grammar.specs.declared.fault.ReadFault as fault;
+ghost use Rattle.quil_grammar.specs.declared.fault.ReadFault.TheVariants.{OutOfMemory};
 ghost use Rattle.quil_parse.specs.Cut.{IsProgramOf, BreaksAt, lines_of};
+ghost use Rattle.quil_parse.specs.Program.{IsTreeOf, IsFaultOf};
 
 /// The bytes of a line say one thing only.
 pub fn one_meaning()
@@ -35,4 +39,11 @@ pub fn none_where_breaks()
 pub fn program_or_break()
     ensures { (text : List ℕ)
         → ¬ (((p : Program) → ¬ (IsProgramOf text p)) × ((k : ℕ) → ¬ (BreaksAt text k))) }
+{}
+
+/// A text is at most one tree, and has at most one fault beside want of memory, never both.
+pub fn one_tree()
+    ensures tree { (text : List ℕ) (t u : List Item) → IsTreeOf text t → IsTreeOf text u → t ≡ u }
+    ensures fault { (text : List ℕ) (f g : fault.ReadFault) → f ≢ OutOfMemory → g ≢ OutOfMemory → IsFaultOf text f → IsFaultOf text g → f ≡ g }
+    ensures not_both { (text : List ℕ) (t : List Item) (f : fault.ReadFault) → f ≢ OutOfMemory → IsTreeOf text t → ¬ (IsFaultOf text f) }
 {}

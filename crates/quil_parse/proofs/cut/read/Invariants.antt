@@ -1,6 +1,6 @@
 use Rattle.std.proofs.Common.{◌≡◌, length, map}
 use Rattle.quil_parse.specs.Cut.{AreLinesOf}
-use Rattle.quil_parse.proofs.parse.read.Given as goal
+use Rattle.quil_parse.proofs.cut.read.Given as goal
 
 -- the lines so far are in the cut, and this is their program
 abbrev pub invariant-loop-line : goal.invariant-loop-line

@@ -7,7 +7,7 @@ use Rattle.std.proofs.lemmas.Result.{err_from_is_err_and}
 use Rattle.qvm_step.specs.Program.{Program}
 use Rattle.quil_parse.specs.Cut.{IsProgramOf, BreaksAt, AddsLine, AreLinesOf, lines_of}
 use Rattle.quil_parse.proofs.Texts.{breaks_here, lines_more, Tells-exit}
-use Rattle.quil_parse.proofs.parse.read.Goals as goal
+use Rattle.quil_parse.proofs.cut.read.Goals as goal
 
 pub returns-in_err-reader : goal.returns-in_err-reader
 returns-in_err-reader c =

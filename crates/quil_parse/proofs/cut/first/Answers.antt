@@ -1,6 +1,6 @@
 use Rattle.std.proofs.Common.{arith}
 use Rattle.quil_parse.proofs.Texts.{Tells-found, Tells-lines, Tells-numbered, Tells-only, Tells-refused, Tells-break, Tells-not_too_long}
-use Rattle.quil_parse.proofs.parse.first.Goals as goal
+use Rattle.quil_parse.proofs.cut.first.Goals as goal
 
 pub returns-clause-found : goal.returns-clause-found
 returns-clause-found c = Tells-found c.read.result c.args.text.now (omega arith) c.read.ensures
