@@ -6,3 +6,6 @@ pub mod LineEnds
 pub mod Slices
 pub mod Apart
 pub mod Total
+pub mod ReadTokens
+pub mod TokenBytes
+pub mod Rereading

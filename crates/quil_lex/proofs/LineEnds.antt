@@ -6,10 +6,10 @@ use Rattle.std.proofs.lemmas.List.{drop_more, take_more}
 use Rattle.quil_lex.proofs.Fronts.{bool_cases}
 use Rattle.quil_lex.specs.Line.{end_len, first_line, other_lines}
 
-line_cons : (b : ℕ) (bs : List ℕ) → end_len (b ∷ bs) ≡ 0 → first_line (b ∷ bs) ≡ b ∷ first_line bs
+pub line_cons : (b : ℕ) (bs : List ℕ) → end_len (b ∷ bs) ≡ 0 → first_line (b ∷ bs) ≡ b ∷ first_line bs
 line_cons b bs h = let t : (end_len (b ∷ bs) == 0) ≡ true = grind (arith, nat_tests, h) in rw t refl
 
-others_cons : (b : ℕ) (bs : List ℕ) → end_len (b ∷ bs) ≡ 0 → other_lines (b ∷ bs) ≡ other_lines bs
+pub others_cons : (b : ℕ) (bs : List ℕ) → end_len (b ∷ bs) ≡ 0 → other_lines (b ∷ bs) ≡ other_lines bs
 others_cons b bs h = let t : (end_len (b ∷ bs) == 0) ≡ true = grind (arith, nat_tests, h) in rw t refl
 
 module _ (bs : List ℕ) (n : ℕ) (inside : n < length bs) (none : end_len (drop n bs) ≡ 0) where

@@ -47,7 +47,7 @@ comment_separates b p = grind (arith, nat_tests)
 semicolon_separates : (b : ℕ) → (b == 59) ≡ true → is_separator b ≡ true
 semicolon_separates b p = grind (arith, nat_tests)
 
-blank_separates : (b : ℕ) → is_blank b ≡ true → is_separator b ≡ true
+pub blank_separates : (b : ℕ) → is_blank b ≡ true → is_separator b ≡ true
 blank_separates b p = grind (arith, nat_tests)
 
 separator_cases : (b : ℕ) → is_separator b ≡ true → (b ≡ 32) ⊎ ((b ≡ 9) ⊎ ((b ≡ 35) ⊎ (b ≡ 59)))
@@ -71,7 +71,7 @@ separator_none b bs h = elim (separator_cases b h) [
 some_none : {A : Type 0} (x : A) → ◌≡◌ {A = Option A} (Some x) None → ⊥
 some_none x h = cc
 
-token_no_separator : {k : Kind} {t r : List ℕ} (b : ℕ) (bs : List ℕ) → IsFirstToken k t r (b ∷ bs) → is_separator b ≡ true → ⊥
+pub token_no_separator : {k : Kind} {t r : List ℕ} (b : ℕ) (bs : List ℕ) → IsFirstToken k t r (b ∷ bs) → is_separator b ≡ true → ⊥
 token_no_separator b bs f h = some_none _ (sym (first_found f) ∙ separator_none b bs h)
 
 token_some : {k : Kind} {t r : List ℕ} → IsFirstToken k t r [] → ⊥

@@ -3,3 +3,4 @@ pub mod Line
 pub mod Reading
 pub mod Scan
 pub mod Cursor
+pub mod Written
