@@ -1,1 +1,4 @@
+pub mod NameSets
+pub mod Plans
 pub mod Postfix
+pub mod Values

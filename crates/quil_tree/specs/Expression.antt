@@ -5,6 +5,7 @@ use Rattle.quil_tree.specs.declared.expr.Atom.{Atom}
 use Rattle.quil_tree.specs.declared.expr.Sign.{Sign}
 use Rattle.quil_tree.specs.declared.expr.Operator.{Operator}
 use Rattle.quil_tree.specs.declared.expr.Function.{Function}
+use Rattle.quil_tree.specs.declared.expr.Action.{Action}
 use Rattle.quil_tree.specs.declared.expr.Action.TheVariants as action
 use Rattle.quil_tree.specs.declared.expr.Step.{Step}
 
@@ -26,3 +27,19 @@ postfix (Called p f a) = postfix a ++ record { place = p; action = action.Call f
 pub record IsPostfix (steps : List Step) : Type 0 where
   pub tree : Expression
   pub steps_of_tree : steps ≡ postfix tree
+
+-- what an action does with the trees on a stack, the last one first
+abbrev pub acted : Place → Action → List Expression → List Expression
+acted p (action.Push a) es = Leaf p a ∷ es
+acted p (action.Sign s) [] = []
+acted p (action.Sign s) (a ∷ es) = Signed p s a ∷ es
+acted p (action.Apply o) [] = []
+acted p (action.Apply o) (b ∷ []) = []
+acted p (action.Apply o) (b ∷ a ∷ es) = Applied p o a b ∷ es
+acted p (action.Call f) [] = []
+acted p (action.Call f) (a ∷ es) = Called p f a ∷ es
+
+-- the trees on the stack when the steps were taken
+abbrev pub trees : List Step → List Expression → List Expression
+trees [] es = es
+trees (s ∷ ss) es = trees ss (acted s.place s.action es)

@@ -1,1 +1,5 @@
 pub mod Expression
+pub mod Names
+pub mod Printed
+pub mod Tasks
+pub mod Values

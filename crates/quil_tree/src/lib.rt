@@ -3,13 +3,17 @@
 //! An expression has no bound on its depth, so it is kept as a list of steps in reverse Polish order and never as boxes
 //! in boxes. Contracts see the steps as those of a tree (`specs/Expression.antt`); `one_tree` is the law that steps are
 //! those of one tree alone.
+//!
+//! `print` gives the text of a tree, and `print_item` that of one item (`specs/Printed.antt`).
 #![tactic(auto)]
 
 mod expr;
 mod item;
 mod laws;
 mod list;
+mod names;
 mod place;
+mod printer;
 mod statement;
 mod text;
 
@@ -19,11 +23,21 @@ pub use item::{
 };
 pub use laws::one_tree;
 pub use list::List;
+pub use names::NameSet;
 pub use place::Place;
+pub use printer::{print, print_item};
 pub use statement::{
     Formula, Gate, Line, Modification, Modifier, Name, Operand, Qubit, Reference, Statement,
 };
 pub use text::Text;
 
+#[cfg(test)]
+mod build;
+#[cfg(test)]
+mod item_tests;
+#[cfg(test)]
+mod print_tests;
+#[cfg(test)]
+mod statement_tests;
 #[cfg(test)]
 mod tests;
