@@ -4,7 +4,10 @@ use Rattle.std.specs.Prelude.{nat_lt, slice_get}
 use Rattle.std.specs.List.{list_all}
 use Rattle.std.proofs.lemmas.Bool.{and_parts, or_left}
 use Rattle.quil_shape.specs.Shape.Shape.{Rule}
-use Rattle.quil_shape.specs.Condition.{is_clear, is_clear_rule}
+use Rattle.quil_shape.specs.Condition.{is_clear, is_clear_rule, is_decided_by_one_token}
+use Rattle.quil_shape.specs.Verdict.{IsOnlyVerdict}
+use Rattle.quil_shape.specs.Verdict.Verdict.{Read, TooLarge}
+use Rattle.quil_shape.proofs.Verdicts.{verdict_only}
 use Rattle.quil_shape.specs.Whole.{Whole}
 use Rattle.quil_shape.specs.Outcome.Outcome.{Made, Stuck, Large}
 use Rattle.quil_shape.specs.Reads.{Advances, Halts, Exceeds}
@@ -18,7 +21,7 @@ use Rattle.quil_tree.specs.declared.expr.Sign.{Sign}
 use Rattle.quil_tree.specs.declared.statement.Operand.{Operand}
 use Rattle.quil_tree.specs.declared.statement.Operand.TheVariants as operand
 use Rattle.quil_grammar.specs.Token.{Token}
-use Rattle.quil_grammar.specs.Grammar.{quil, tables, accepts, Event, Sum, Product, Unary, Power, Primary, OperandSum, more_terms, more_factors, exponent, is_digit, whole_of, value_behind, sign_of, operator_of, function_of, is_operator_next, is_wide, is_wide_whole_next}
+use Rattle.quil_grammar.specs.Grammar.{quil, tables, accepts, Event, Sum, Product, Unary, Power, Primary, OperandSum, OperandProduct, OperandUnary, OperandPower, OperandPrimary, more_terms, more_factors, exponent, is_digit, whole_of, value_behind, sign_of, operator_of, function_of, is_operator_next, is_wide, is_wide_whole_next}
 use Rattle.quil_grammar.specs.Grammar.Event.{Stands, Between, Joined, Opens, Closes}
 use Rattle.quil_grammar.specs.Grammar.Around.{Signed, Parenthesized, Argument}
 use Rattle.quil_grammar.specs.Written.{Written, events, start, formula_of, operand_of}
@@ -313,3 +316,91 @@ pub formula_stops : (ts us : List Token) (x : Stop) → is_plain_next ts ≡ fal
 formula_stops ts us stop.OutOfMemory f g h = tt
 formula_stops ts us stop.Unexpected f g h = operand_reads ts (Stuck us) f g h
 formula_stops ts us stop.TooLarge f g h = operand_reads ts (Large us) f g h
+
+-- An operand's tokens are those of a sum, if one doesn't ask how large they are.
+primary_as_sum : {ts : List Token} {os : List Event} → Whole quil (Rule OperandPrimary) ts os → Whole quil (Rule (Primary false)) ts os
+unfolding quil
+primary_as_sum (Whole.rule (Whole.left (Whole.one {t = t} h))) = Whole.rule (Whole.left (Whole.one {c = class.Number} {t = t} h))
+primary_as_sum (Whole.rule (Whole.right (Whole.left w))) = Whole.rule (Whole.right (Whole.left w))
+primary_as_sum (Whole.rule (Whole.right (Whole.right (Whole.left w)))) = Whole.rule (Whole.right (Whole.right (Whole.left w)))
+primary_as_sum (Whole.rule (Whole.right (Whole.right (Whole.right (Whole.left w))))) = Whole.rule (Whole.right (Whole.right (Whole.right (Whole.left w))))
+primary_as_sum (Whole.rule (Whole.right (Whole.right (Whole.right (Whole.right (Whole.left w)))))) = Whole.rule (Whole.right (Whole.right (Whole.right (Whole.right (Whole.left w)))))
+primary_as_sum (Whole.rule (Whole.right (Whole.right (Whole.right (Whole.right (Whole.right w)))))) = Whole.rule (Whole.right (Whole.right (Whole.right (Whole.right (Whole.right (Whole.right w))))))
+
+power_as_sum : {ts : List Token} {os : List Event} → Whole quil (Rule OperandPower) ts os → Whole quil (Rule (Power false)) ts os
+unfolding quil
+power_as_sum (Whole.rule (Whole.seq w v)) = Whole.rule (Whole.seq (primary_as_sum w) v)
+
+unary_as_sum : {ts : List Token} {os : List Event} → Whole quil (Rule OperandUnary) ts os → Whole quil (Rule (Unary false)) ts os
+unfolding quil
+unary_as_sum (Whole.rule (Whole.left (Whole.seq (Whole.one {t = t} h) v))) = Whole.rule (Whole.left (Whole.seq (Whole.one {c = class.Sign} {t = t} h) v))
+unary_as_sum (Whole.rule (Whole.right w)) = Whole.rule (Whole.right (power_as_sum w))
+
+operand_as_sum : {ts : List Token} {os : List Event} → Whole quil (Rule OperandSum) ts os → Whole quil (Rule (Sum false)) ts os
+unfolding quil
+operand_as_sum (Whole.rule (Whole.seq (Whole.rule (Whole.seq w v)) u)) = Whole.rule (Whole.seq (Whole.rule (Whole.seq (unary_as_sum w) v)) u)
+
+operand_spells : (ts us : List Token) (os : List Event) → Advances quil tables (Rule OperandSum) ts us os → (before : List Token) × (ts ≡ before ++ us) × Spelled before os
+operand_spells ts us os r = let h = stands quil tables true_tables r in (h.before, h.splits, sum_spells (operand_as_sum h.whole))
+
+operand_decided : is_decided_by_one_token quil tables (Rule OperandSum) ≡ true
+unfolding quil tables
+operand_decided = refl
+
+not_both_ways : (ts vs : List Token) (os : List Event) → Advances quil tables (Rule OperandSum) ts [] os → Exceeds quil tables (Rule OperandSum) ts vs → ⊥
+not_both_ways ts vs os r q =
+    let a : IsOnlyVerdict quil (Rule OperandSum) ts (Read os) = verdict_only quil tables (Rule OperandSum) operand_decided ts (Made os []) r in
+    let b : IsOnlyVerdict quil (Rule OperandSum) ts (TooLarge vs) = verdict_only quil tables (Rule OperandSum) operand_decided ts (Large vs) q in
+    let same : Read os ≡ TooLarge vs = b.is_only (Read os) a.is_true in
+    cc
+
+-- A whole number that is all of an operand is below 2^64.
+abbrev pub IsBelow : List ℕ → Type 0
+IsBelow x = list_all is_digit x ≡ true → not (nat_lt (value_behind 0 x) (2 ^ 64)) ≡ false
+
+abbrev pub IsSmall : Written → Type 0
+IsSmall (Alone p (atom.Number x)) = IsBelow x
+IsSmall (Within (Signed p s) (Alone q (atom.Number x))) = IsBelow x
+IsSmall w = Unit {0}
+
+below : (ts : List Token) (t : Token) (x : List ℕ) → accepts class.Number t.sort ≡ true → x ≡ t.text → (is_wide_whole_next (t ∷ []) ≡ true → ⊥) → IsBelow x
+below ts t x a e none d =
+    let digits : list_all is_digit t.text ≡ true = subst (λ y. list_all is_digit y ≡ true) e d in
+    by (is_wide t) refl digits
+  where
+    by : (b : Bool) → is_wide t ≡ b → list_all is_digit t.text ≡ true → not (nat_lt (value_behind 0 x) (2 ^ 64)) ≡ false
+    by false w g = subst (λ y. not (nat_lt (value_behind 0 y) (2 ^ 64)) ≡ false) (sym e) w
+    by true w g = absurd (none (wide_by t [] (record { is_number = a; all_digits = g; no_operator = refl }) ∙ w))
+
+number_is_small : (ts before : List Token) (os : List Event) (x : List ℕ) → Advances quil tables (Rule OperandSum) ts [] os → ts ≡ before ++ [] → (t : Token) × (before ≡ t ∷ []) × (accepts class.Number t.sort ≡ true) × (x ≡ t.text) → IsBelow x
+number_is_small ts before os x r e h =
+    let tokens : ts ≡ h.0 ∷ [] = e ∙ append-nil before ∙ h.1 in
+    below ts h.0 x h.2 h.3 (λ wide. not_both_ways (h.0 ∷ []) (h.0 ∷ []) os (subst (λ us. Advances quil tables (Rule OperandSum) us [] os) tokens r) (number_exceeds h.0 [] h.2 wide))
+
+spelled_is_small : (ts before : List Token) (os : List Event) (w : Written) → Advances quil tables (Rule OperandSum) ts [] os → ts ≡ before ++ [] → Spells w before → IsSmall w
+unfolding Spells
+spelled_is_small ts before os (Alone p (atom.Number x)) r e h = number_is_small ts before os x r e h
+spelled_is_small ts before os (Within (Signed p s) (Alone q (atom.Number x))) r e h =
+    let k = h.4 in
+    let t = k.0 in
+    let tokens : ts ≡ h.0 ∷ t ∷ [] = e ∙ append-nil before ∙ h.2 ∙ ap (λ us. h.0 ∷ us) k.1 in
+    below ts t x k.2 k.3 (λ wide. not_both_ways (h.0 ∷ t ∷ []) (h.0 ∷ t ∷ []) os (subst (λ us. Advances quil tables (Rule OperandSum) us [] os) tokens r) (signed_exceeds h.0 t [] h.3 wide))
+spelled_is_small ts before os (Alone p (atom.Imaginary x)) r e h = tt
+spelled_is_small ts before os (Alone p atom.Pi) r e h = tt
+spelled_is_small ts before os (Alone p atom.I) r e h = tt
+spelled_is_small ts before os (Alone p (atom.Parameter n)) r e h = tt
+spelled_is_small ts before os (Alone p (atom.Cell a)) r e h = tt
+spelled_is_small ts before os (Joins o a b) r e h = tt
+spelled_is_small ts before os (Within (Parenthesized p) w) r e h = tt
+spelled_is_small ts before os (Within (Argument p f) w) r e h = tt
+spelled_is_small ts before os (Within (Signed p s) (Alone q (atom.Imaginary x))) r e h = tt
+spelled_is_small ts before os (Within (Signed p s) (Alone q atom.Pi)) r e h = tt
+spelled_is_small ts before os (Within (Signed p s) (Alone q atom.I)) r e h = tt
+spelled_is_small ts before os (Within (Signed p s) (Alone q (atom.Parameter n))) r e h = tt
+spelled_is_small ts before os (Within (Signed p s) (Alone q (atom.Cell a))) r e h = tt
+spelled_is_small ts before os (Within (Signed p s) (Joins o a b)) r e h = tt
+spelled_is_small ts before os (Within (Signed p s) (Within m w)) r e h = tt
+
+-- what is read as an operand, up to the end, is a written expression; a whole number alone is below 2^64
+pub operand_is_written : (ts : List Token) (os : List Event) → Advances quil tables (Rule OperandSum) ts [] os → (w : Written) × (os ≡ events w) × IsSmall w
+operand_is_written ts os r = let h = operand_spells ts [] os r in let s = h.2 in (s.written, s.same, spelled_is_small ts h.0 os s.written r h.1 s.spells)

@@ -2,7 +2,8 @@
 use Rattle.std.proofs.Common.{◌≡◌, ℕ, ◌+◌, Bool, true, false, not, ◌||◌, bytes_eq, List, [], ◌∷◌, ◌++◌, map, refl, ap, ◌∙◌, if◌then◌else◌, cond, Bor}
 use Rattle.std.proofs.lemmas.List.{map-append}
 use Rattle.std.specs.List.{list_any, position_or_len}
-use Rattle.quil_grammar.specs.Token.{with_name, number_among}
+use Rattle.quil_tree.specs.Names.{with_name}
+use Rattle.quil_grammar.specs.Token.{number_among}
 
 pub number_by_text : (name : Bor (List ℕ)) (keys : List (Bor (List ℕ))) → position_or_len (λ k. bytes_eq name.now k.now) keys ≡ number_among (map (λ k. k.now) keys) name.now
 number_by_text name [] = refl

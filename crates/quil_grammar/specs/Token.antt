@@ -2,6 +2,7 @@
 use Rattle.std.specs.Prelude.{ℕ, Bool, ◌&&◌, bytes_eq, List, [], ◌∷◌, ◌++◌, map, fold, if◌then◌else◌}
 use Rattle.std.specs.List.{list_any, position_or_len}
 use Rattle.quil_tree.specs.declared.place.Place.{Place}
+use Rattle.quil_tree.specs.Names.{with_name}
 use Rattle.quil_lex.specs.declared.segment.End.{End}
 use Rattle.quil_lex.specs.declared.segment.End.TheVariants as end
 use Rattle.quil_lex.specs.Reading.{Lexeme, Span}
@@ -19,10 +20,6 @@ pub record Token : Type 0 where
 -- the lexeme is a parameter
 abbrev pub is_parameter : Lexeme → Bool
 is_parameter l = is_sort (sort_of l.kind l.text) sort.Parameter
-
--- names, and one more where it is none of them
-abbrev pub with_name : List (List ℕ) → List ℕ → List (List ℕ)
-with_name names name = if list_any (bytes_eq name) names then names else names ++ name ∷ []
 
 -- the parameters that have appeared, in the order of their first appearance
 abbrev pub names_with : List (List ℕ) → Lexeme → List (List ℕ)
@@ -60,10 +57,6 @@ abbrev pub end_of : List Span → Place
 end_of [] = record { line = 1; column = 1 }
 end_of (s ∷ []) = record { line = s.line; column = s.line_end }
 end_of (s ∷ t ∷ ss) = end_of (t ∷ ss)
-
--- names, each once, in the order of their first appearance
-abbrev pub distinct : List (List ℕ) → List (List ℕ)
-distinct names = fold with_name [] names
 
 -- the names that a definition gives to what stands in its body: its parameters, and a circuit's qubits
 pub record Context : Type 0 where

@@ -2,7 +2,8 @@
 
 ghost use Rattle.std.specs.Prelude.{◌≡◌, map, fold, length, IfOk, OnOk, ◌++◌, ◌∷◌, []};
 ghost use Rattle.quil_lex.specs.Reading.{lexeme_of, span_of, spans_of};
-ghost use Rattle.quil_grammar.specs.Token.{byte_token, token_of, with_name, number_among, names_with, tokens_of, tokens_among, end_tokens, end_of};
+ghost use Rattle.quil_tree.specs.Names.{with_name};
+ghost use Rattle.quil_grammar.specs.Token.{byte_token, token_of, number_among, names_with, tokens_of, tokens_among, end_tokens, end_of};
 
 use crate::sort::Sort;
 use crate::token::Token;

@@ -1,9 +1,3 @@
-pub mod Numerals
-pub mod Forms
-pub mod Regions
-pub mod Unique
-pub mod Results
-pub mod Texts
 pub mod Lines
 pub mod Programs
 pub mod Contexts

@@ -20,7 +20,8 @@ use Rattle.quil_grammar.specs.declared.class.Class.{Class}
 use Rattle.quil_grammar.specs.declared.fault.ReadFault.{ReadFault}
 use Rattle.quil_grammar.specs.declared.fault.ReadFault.TheVariants as fault
 use Rattle.quil_grammar.specs.Sort.{is_sort}
-use Rattle.quil_grammar.specs.Token.{Token, Context, distinct, no_context, span_tokens, span_end}
+use Rattle.quil_tree.specs.Names.{distinct, texts_of}
+use Rattle.quil_grammar.specs.Token.{Token, Context, no_context, span_tokens, span_end}
 use Rattle.quil_grammar.specs.Grammar.{quil, Name, Event}
 use Rattle.quil_grammar.specs.Parts.{Part, parts_events}
 use Rattle.quil_grammar.specs.Statements.{top_level, statement, matrix_row, permutation_row, nowhere, nothing}
@@ -71,9 +72,6 @@ line_shape true is = body_shape is
 line_shape false is = if wants_body is then nowhere else top_level
 
 -- the names that the definition gives in its body
-abbrev pub texts_of : List Called → List (List ℕ)
-texts_of names = map (λ n. n.text) names
-
 abbrev pub body_context : List Item → Context
 body_context [] = no_context
 body_context (item.Declare d ∷ is) = no_context

@@ -1,7 +1,6 @@
 -- What the reader of a program holds, and what it tells of each line. Nobody has to believe these: the clauses of `parse` say
 -- what is read.
 use Rattle.std.specs.Prelude.{◌≡◌, ℕ, ◌<◌, ◌⊎◌, Bool, true, false, map, List, [], ◌∷◌, length, reverse, Option, Some, None, Result, Ok, Err}
-use Rattle.std.specs.Global.{Vec}
 use Rattle.quil_lex.specs.Reading.{Span}
 use Rattle.quil_shape.specs.Shape.{Shape}
 use Rattle.quil_shape.specs.Verdict.{Verdict, IsVerdict, IsReading as IsWhole}
@@ -22,11 +21,8 @@ use Rattle.quil_parse.specs.declared.context.Context.{Context as Names}
 use Rattle.quil_parse.specs.declared.items.Items.{Items}
 
 -- the names of a definition
-abbrev pub keys_of : List (Vec ℕ) → List (List ℕ)
-keys_of keys = map (λ k. k.items) keys
-
 abbrev pub names_in : Names → Context
-names_in c = record { parameters = keys_of c.parameters.keys; qubits = keys_of c.qubits.keys }
+names_in c = record { parameters = c.parameters; qubits = c.qubits }
 
 -- the names at the first token of a line, which is no qubit, and at another
 abbrev pub names_at_first : Bool → Context → Context

@@ -398,13 +398,44 @@ pub(crate) fn told(alloc: Global, text: &[u8]) -> Result<String, AllocError> {
     }
 }
 
-/// The rows whose text gives something else than is wanted, with what it gives.
+// A text of a tree without the places in it.
+fn without_places(alloc: Global, said: &str) -> Result<Vec<u8>, AllocError> {
+    let mut bytes = Vec::new(alloc);
+    let mut in_place = true;
+    for byte in said.as_bytes() {
+        if in_place && (byte.is_ascii_digit() || *byte == b':') {
+            continue;
+        }
+        in_place = *byte == b'@' || *byte == b'|' || (in_place && *byte == b' ');
+        bytes.push(*byte)?;
+    }
+    Ok(bytes)
+}
+
+// The tree of a text, if it has one, is printed and read again as the same tree up to places.
+fn is_read_again(alloc: Global, text: &[u8]) -> Result<bool, AllocError> {
+    let Ok(tree) = parse(alloc, text) else {
+        return Ok(true);
+    };
+    let printed = print(alloc, &tree)?;
+    let Ok(again) = parse(alloc, printed.as_bytes()) else {
+        return Ok(false);
+    };
+    let first = without_places(alloc, &tree_text(alloc, &tree)?)?;
+    let second = without_places(alloc, &tree_text(alloc, &again)?)?;
+    Ok(first.as_slice() == second.as_slice())
+}
+
+/// The rows whose text gives something else than is wanted, with what it gives, or whose tree isn't printed as itself.
 pub(crate) fn misses(alloc: Global, rows: &[(&str, &str)]) -> Result<String, AllocError> {
     let mut all = String::new(alloc);
     for (text, want) in rows {
         let found = told(alloc, text.as_bytes())?;
         if found.as_str() != *want {
             all.push_str(&format!(in alloc; "\n{text:?} gives {found} and not {want}")?)?;
+        }
+        if !is_read_again(alloc, text.as_bytes())? {
+            all.push_str(&format!(in alloc; "\n{text:?} is printed as another tree")?)?;
         }
     }
     Ok(all)

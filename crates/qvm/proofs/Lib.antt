@@ -1,3 +1,9 @@
+pub mod Numerals
+pub mod Forms
+pub mod NamedRegions
+pub mod Unique
+pub mod Results
+pub mod Items
 pub mod WordLemmas
 pub mod Runs
 pub mod Regions

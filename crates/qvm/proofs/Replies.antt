@@ -1,22 +1,34 @@
 -- A text has one reply.
-use Rattle.std.proofs.Common.{◌≡◌, sym, ◌∙◌, ap, ℕ, inl, inr, List, arith}
+use Rattle.std.proofs.Common.{◌≡◌, ◌≢◌, sym, ◌∙◌, ap, subst, ℕ, inl, inr, List}
+use Rattle.quil_tree.specs.declared.item.Item.{Item}
+use Rattle.quil_grammar.specs.declared.fault.ReadFault.{ReadFault}
+use Rattle.quil_grammar.specs.declared.fault.ReadFault.TheVariants.{OutOfMemory}
+use Rattle.quil_parse.specs.Program.{IsTreeOf, IsFaultOf}
 use Rattle.qvm_step.specs.Program.{Program}
-use Rattle.quil_parse.specs.Cut.{IsProgramOf, BreaksAt}
-use Rattle.qvm.specs.RunText.{Reply, IsReplyTo, not_built_reply, run_reply}
+use Rattle.qvm.specs.Cut.{IsPlanOf, BreaksAt}
+use Rattle.qvm.specs.RunText.{Reply, IsReplyTo, IsReplyToTree, refused_reply, not_built_reply, run_reply}
 
--- from the laws of the cut: a text has one program at most, breaks at one line at most, and doesn't do both
-pub one_reply_by : ((text : List ℕ) (p q : Program) → IsProgramOf text p → IsProgramOf text q → p ≡ q) →
-    ((text : List ℕ) (j k : ℕ) → BreaksAt text j → BreaksAt text k → j ≡ k) →
-    ((text : List ℕ) (k : ℕ) (p : Program) → BreaksAt text k → ¬ (IsProgramOf text p)) →
-    (limit : ℕ) (text : List ℕ) (r s : Reply) → IsReplyTo limit text r → IsReplyTo limit text s → r ≡ s
-one_reply_by program line none limit text r s (inl h) (inl k) = h.is ∙ sym k.is
-one_reply_by program line none limit text r s (inl h) (inr (inl k)) = absurd (omega (arith, h.long, k.short))
-one_reply_by program line none limit text r s (inl h) (inr (inr k)) = absurd (omega (arith, h.long, k.short))
-one_reply_by program line none limit text r s (inr (inl h)) (inl k) = absurd (omega (arith, k.long, h.short))
-one_reply_by program line none limit text r s (inr (inr h)) (inl k) = absurd (omega (arith, k.long, h.short))
-one_reply_by program line none limit text r s (inr (inl h)) (inr (inl k)) =
-    h.is ∙ ap not_built_reply (line text h.line k.line h.breaks k.breaks) ∙ sym k.is
-one_reply_by program line none limit text r s (inr (inl h)) (inr (inr k)) = absurd (none text h.line k.program h.breaks k.spelled)
-one_reply_by program line none limit text r s (inr (inr h)) (inr (inl k)) = absurd (none text k.line h.program k.breaks h.spelled)
-one_reply_by program line none limit text r s (inr (inr h)) (inr (inr k)) =
-    h.is ∙ ap (run_reply limit) (program text h.program k.program h.spelled k.spelled) ∙ sym k.is
+-- from the laws of the cut: a tree has one plan at most, breaks at one line at most, and doesn't do both
+module _ (plan : (tree : List Item) (p q : Program) → IsPlanOf tree p → IsPlanOf tree q → p ≡ q)
+    (line : (tree : List Item) (j k : ℕ) → BreaksAt tree j → BreaksAt tree k → j ≡ k)
+    (none : (tree : List Item) (k : ℕ) (p : Program) → BreaksAt tree k → ¬ (IsPlanOf tree p)) where
+  one_of_tree : (limit : ℕ) (tree : List Item) (r s : Reply) → IsReplyToTree limit tree r → IsReplyToTree limit tree s → r ≡ s
+  one_of_tree limit tree r s (inl h) (inl k) = h.is ∙ ap not_built_reply (line tree h.line k.line h.breaks k.breaks) ∙ sym k.is
+  one_of_tree limit tree r s (inl h) (inr k) = absurd (none tree h.line k.program h.breaks k.is_plan)
+  one_of_tree limit tree r s (inr h) (inl k) = absurd (none tree k.line h.program k.breaks h.is_plan)
+  one_of_tree limit tree r s (inr h) (inr k) = h.is ∙ ap (run_reply limit) (plan tree h.program k.program h.is_plan k.is_plan) ∙ sym k.is
+
+-- and from those of the reader: a text is one tree at most, has one fault at most beside want of memory, and not both
+pub one_reply_by : ((text : List ℕ) (t u : List Item) → IsTreeOf text t → IsTreeOf text u → t ≡ u)
+    → ((text : List ℕ) (f g : ReadFault) → f ≢ OutOfMemory → g ≢ OutOfMemory → IsFaultOf text f → IsFaultOf text g → f ≡ g)
+    → ((text : List ℕ) (t : List Item) (f : ReadFault) → f ≢ OutOfMemory → IsTreeOf text t → ¬ (IsFaultOf text f))
+    → ((tree : List Item) (p q : Program) → IsPlanOf tree p → IsPlanOf tree q → p ≡ q)
+    → ((tree : List Item) (j k : ℕ) → BreaksAt tree j → BreaksAt tree k → j ≡ k)
+    → ((tree : List Item) (k : ℕ) (p : Program) → BreaksAt tree k → ¬ (IsPlanOf tree p))
+    → (limit : ℕ) (text : List ℕ) (r s : Reply) → IsReplyTo limit text r → IsReplyTo limit text s → r ≡ s
+one_reply_by tree fault not_both plan line none limit text r s (inl h) (inl k) =
+    h.is ∙ ap refused_reply (fault text h.fault k.fault h.known k.known h.is_fault k.is_fault) ∙ sym k.is
+one_reply_by tree fault not_both plan line none limit text r s (inl h) (inr k) = absurd (not_both text k.tree h.fault h.known k.is_tree h.is_fault)
+one_reply_by tree fault not_both plan line none limit text r s (inr h) (inl k) = absurd (not_both text h.tree k.fault k.known h.is_tree k.is_fault)
+one_reply_by tree fault not_both plan line none limit text r s (inr h) (inr k) =
+    one_of_tree plan line none limit h.tree r s h.is_reply (subst (λ (t : List Item). IsReplyToTree limit t s) (tree text k.tree h.tree k.is_tree h.is_tree) k.is_reply)

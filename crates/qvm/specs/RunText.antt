@@ -1,11 +1,16 @@
 -- What `qvm run` writes and the status that it ends with, for each text.
-use Rattle.std.specs.Prelude.{◌≡◌, ℕ, ◌<◌, ◌≤◌, ◌⊎◌, Bool, true, false, List, [], ◌++◌, length, take, drop, codes, decimal}
+use Rattle.std.specs.Prelude.{◌≡◌, ◌≢◌, ℕ, ◌⊎◌, Bool, true, false, List, [], ◌++◌, take, drop, codes, decimal}
 use Rattle.std.specs.List.{flat_map}
 use Rattle.qvm_step.specs.declared.plan.Region.{Region}
 use Rattle.qvm_step.specs.Program.{Program}
 use Rattle.qvm_step.specs.Words.{zero_seed}
 use Rattle.qvm_step.specs.Run.{End, Halted, StepLimit, AmplitudeLimit, Finished, finished, start}
-use Rattle.quil_parse.specs.Cut.{IsProgramOf, BreaksAt, most_bytes}
+use Rattle.quil_tree.specs.declared.item.Item.{Item}
+use Rattle.quil_grammar.specs.declared.fault.ReadFault.{ReadFault}
+use Rattle.quil_grammar.specs.declared.fault.ReadFault.TheVariants as fault
+use Rattle.quil_grammar.specs.declared.fault.ReadFault.TheVariants.{OutOfMemory}
+use Rattle.quil_parse.specs.Program.{IsTreeOf, IsFaultOf}
+use Rattle.qvm.specs.Cut.{IsPlanOf, BreaksAt}
 
 -- the bytes written, and the status
 pub record Reply : Type 0 where
@@ -52,30 +57,50 @@ run_reply limit program = finished_reply program.regions (finished limit program
 
 -- ---- refusals
 
+-- the line of a fault of reading; want of memory has none
+abbrev pub fault_text : ReadFault → List ℕ
+fault_text (fault.NumberTooWide line column) = codes "error: 4 NumberTooWide column=" ++ decimal column ++ codes " line=" ++ decimal line ++ codes "\n"
+fault_text (fault.BadToken line column) = codes "error: 5 BadToken column=" ++ decimal column ++ codes " line=" ++ decimal line ++ codes "\n"
+fault_text (fault.Unexpected line column) = codes "error: 6 Unexpected column=" ++ decimal column ++ codes " line=" ++ decimal line ++ codes "\n"
+fault_text (fault.TextTooLong size) = codes "error: 7 TextTooLong length=" ++ decimal size ++ codes "\n"
+fault_text (fault.LeftOut line word) = codes "error: 8 LeftOut line=" ++ decimal line ++ codes " word=" ++ word ++ codes "\n"
+fault_text fault.OutOfMemory = []
+
+abbrev pub refused_reply : ReadFault → Reply
+refused_reply f = record { output = fault_text f; status = 1 }
+
 abbrev pub not_built_reply : ℕ → Reply
 not_built_reply line = record { output = codes "error: 57 NotBuilt line=" ++ decimal line ++ codes "\n"; status = 1 }
 
-abbrev pub too_long_reply : ℕ → Reply
-too_long_reply size = record { output = codes "error: 7 TextTooLong length=" ++ decimal size ++ codes "\n"; status = 1 }
-
 -- ---- every text has one reply
 
-pub record IsTooLong (text : List ℕ) (reply : Reply) : Type 0 where
-  pub long : most_bytes < length text
-  pub is : reply ≡ too_long_reply (length text)
+-- the text isn't read
+pub record IsRefusal (text : List ℕ) (reply : Reply) : Type 0 where
+  pub fault : ReadFault
+  pub known : fault ≢ OutOfMemory
+  pub is_fault : IsFaultOf text fault
+  pub is : reply ≡ refused_reply fault
 
-pub record IsNotBuilt (text : List ℕ) (reply : Reply) : Type 0 where
-  pub short : length text ≤ most_bytes
+-- the tree breaks the cut at a line
+pub record IsNotBuilt (tree : List Item) (reply : Reply) : Type 0 where
   pub line : ℕ
-  pub breaks : BreaksAt text line
+  pub breaks : BreaksAt tree line
   pub is : reply ≡ not_built_reply line
 
-pub record IsRun (limit : ℕ) (text : List ℕ) (reply : Reply) : Type 0 where
-  pub short : length text ≤ most_bytes
+-- the tree is in the cut, and its plan is run
+pub record IsRun (limit : ℕ) (tree : List Item) (reply : Reply) : Type 0 where
   pub program : Program
-  pub spelled : IsProgramOf text program
+  pub is_plan : IsPlanOf tree program
   pub is : reply ≡ run_reply limit program
 
--- the reply to a text: it is too long; or it leaves the cut at a line; or it is in the cut, and its program is run
+abbrev pub IsReplyToTree : ℕ → List Item → Reply → Type 0
+IsReplyToTree limit tree reply = IsNotBuilt tree reply ⊎ IsRun limit tree reply
+
+pub record IsAnswer (limit : ℕ) (text : List ℕ) (reply : Reply) : Type 0 where
+  pub tree : List Item
+  pub is_tree : IsTreeOf text tree
+  pub is_reply : IsReplyToTree limit tree reply
+
+-- the reply to a text: that of its first fault, or that of its tree
 abbrev pub IsReplyTo : ℕ → List ℕ → Reply → Type 0
-IsReplyTo limit text reply = IsTooLong text reply ⊎ (IsNotBuilt text reply ⊎ IsRun limit text reply)
+IsReplyTo limit text reply = IsRefusal text reply ⊎ IsAnswer limit text reply

@@ -1,14 +1,18 @@
 //! The reply to a text: what is printed, and the status.
 
-ghost use Rattle.std.specs.Prelude.{◌≡◌, ◌+◌, ◌<◌, ◌≤◌, ◌++◌, length, OnOk, IfOk, All};
+ghost use Rattle.std.specs.Prelude.{◌≡◌, ◌≢◌, ◌+◌, ◌<◌, ◌≤◌, ◌++◌, length, OnOk, IfOk, All};
+ghost use Rattle.quil_grammar.specs.declared.fault.ReadFault.TheVariants.{OutOfMemory};
 ghost use Rattle.qvm_step.specs.Program.{bits_of};
 ghost use Rattle.qvm.specs.Ends.{end_seen, reply_seen};
 ghost use Rattle.qvm.specs.Calls.{step_limit};
-ghost use Rattle.qvm.specs.RunText.{IsReplyTo, end_text, end_status, run_reply, not_built_reply, too_long_reply};
+ghost use Rattle.qvm.specs.RunText.{IsReplyTo, IsReplyToTree, end_text, end_status, run_reply, not_built_reply, refused_reply};
 
+use crate::plan::{FirstFault, plan_of};
+use crate::refusal::fault_text;
 use crate::run::{End, run};
 use crate::text::{memory_text, numbered_line, push_numbered};
-use quil_parse::{FirstFault, first};
+use quil_parse::{ReadFault, parse};
+use quil_tree::Tree;
 use qvm_step::Plan;
 use std::alloc::{AllocError, Global};
 
@@ -81,26 +85,37 @@ fn not_built(alloc: Global, line: u32) -> Result<Reply, AllocError>
     })
 }
 
-fn too_long(alloc: Global, length: u64) -> Result<Reply, AllocError>
-    ensures reply { IfOk result (λ reply. reply_seen reply ≡ too_long_reply length) }
+fn refused(alloc: Global, fault: &ReadFault) -> Result<Reply, AllocError>
+    ensures known { IfOk result (λ reply. fault.now ≢ OutOfMemory) }
+    ensures reply { IfOk result (λ reply. reply_seen reply ≡ refused_reply fault.now) }
     ensures status { IfOk result (λ reply. reply.status < 6) }
 {
-    let output = numbered_line(alloc, "error: 7 TextTooLong length=", length)?;
+    let output = fault_text(alloc, fault)?;
     Ok(Reply {
         output,
         status: REFUSED,
     })
 }
 
-/// The reply to a text: it is too long, or it leaves the cut at a line, or its program is run.
+// The reply to a text that was read.
+fn planned(alloc: Global, tree: &Tree) -> Result<Reply, AllocError>
+    ensures reply { IfOk result (λ reply. IsReplyToTree step_limit tree.now (reply_seen reply)) }
+    ensures status { IfOk result (λ reply. reply.status < 6) }
+{
+    match plan_of(alloc, tree) {
+        Ok(plan) => run_reply(alloc, &plan),
+        Err(FirstFault::NotBuilt { line }) => not_built(alloc, line),
+        Err(FirstFault::OutOfMemory) => Err(AllocError),
+    }
+}
+
+/// The reply to a text: it isn't read, or its tree breaks the cut at a line, or its plan is run.
 pub(crate) fn answer(alloc: Global, text: &[u8]) -> Result<Reply, AllocError>
     ensures reply { IfOk result (λ reply. IsReplyTo step_limit text.now (reply_seen reply)) }
     ensures status { IfOk result (λ reply. reply.status < 6) }
 {
-    match first(alloc, text) {
-        Ok(plan) => run_reply(alloc, &plan),
-        Err(FirstFault::NotBuilt { line }) => not_built(alloc, line),
-        Err(FirstFault::TextTooLong { length }) => too_long(alloc, length),
-        Err(FirstFault::OutOfMemory) => Err(AllocError),
+    match parse(alloc, text) {
+        Ok(tree) => planned(alloc, &tree),
+        Err(fault) => refused(alloc, &fault),
     }
 }

@@ -34,7 +34,7 @@ fn source_of(
 }
 
 // Runs a text in pieces of that size, 0 for whole pieces, and compares what is written, and the status.
-fn check(
+pub(crate) fn check(
     rt: &impl Abort,
     alloc: Global,
     text: &str,
@@ -52,7 +52,11 @@ fn check(
 }
 
 // The same, whole and byte by byte.
-fn check_all(rt: &impl Abort, alloc: Global, cases: &[(&str, &str, u8)]) -> Result<(), Fail> {
+pub(crate) fn check_all(
+    rt: &impl Abort,
+    alloc: Global,
+    cases: &[(&str, &str, u8)],
+) -> Result<(), Fail> {
     for (text, output, status) in cases {
         check(rt, alloc, *text, 0, *output, *status)?;
         check(rt, alloc, *text, 1, *output, *status)?;
@@ -133,124 +137,6 @@ fn runs(rt: HostRuntime) -> Result<(), Fail> {
     check_all(&rt, rt.alloc(), &cases)
 }
 
-// Texts that just miss a rule of the cut, and the line at which they leave it.
-#[test]
-fn near_misses_are_refused(rt: HostRuntime) -> Result<(), Fail> {
-    let alloc = rt.alloc();
-    for (text, line) in [
-        // Names.
-        ("DECLARE a BIT", 1),
-        ("DECLARE r BIT\n", 1),
-        ("DECLARE abcdefghijklmnopq BIT", 1),
-        ("DECLARE pi BIT", 1),
-        ("DECLARE sqrt BIT", 1),
-        ("DECLARE sin BIT", 1),
-        ("DECLARE cos BIT", 1),
-        ("DECLARE cis BIT", 1),
-        ("DECLARE exp BIT[2]", 1),
-        ("DECLARE Ro BIT", 1),
-        ("DECLARE r0 BIT", 1),
-        ("DECLARE r_o BIT", 1),
-        ("DECLARE `o BIT", 1),
-        ("DECLARE {o BIT", 1),
-        ("DECLARE BIT", 1),
-        ("DECLARE  BIT", 1),
-        // Lengths.
-        ("DECLARE ro BIT[0]", 1),
-        ("DECLARE ro BIT[01]", 1),
-        ("DECLARE ro BIT[]", 1),
-        ("DECLARE ro BIT[+1]", 1),
-        ("DECLARE ro BIT[-1]", 1),
-        ("DECLARE ro BIT[65537]", 1),
-        ("DECLARE ro BIT[99999]", 1),
-        ("DECLARE ro BIT[4294967297]", 1),
-        ("DECLARE ro BIT[18446744073709551617]", 1),
-        (
-            "DECLARE ro BIT[100000000000000000000000000000000000000000000000000000000000000001]",
-            1,
-        ),
-        ("DECLARE ro BIT[1", 1),
-        ("DECLARE ro BIT1]", 1),
-        ("DECLARE ro BIT[1]]", 1),
-        ("DECLARE ro BIT[1] ", 1),
-        ("DECLARE ro BIT [1]", 1),
-        ("DECLARE ro bit", 1),
-        ("DECLARE ro BITS", 1),
-        ("DECLARE ro REAL", 1),
-        ("DECLARE ro", 1),
-        ("DECLARE ro ", 1),
-        ("DECLARE", 1),
-        // Declarations together.
-        ("DECLARE aa BIT[65536]\nDECLARE bb BIT", 2),
-        ("DECLARE aa BIT[32769]\nDECLARE bb BIT[32768]", 2),
-        ("DECLARE aa BIT\nDECLARE aa BIT", 2),
-        ("DECLARE aa BIT\n\nDECLARE bb BIT\nDECLARE aa BIT[2]", 4),
-        // Qubits.
-        ("X 16", 1),
-        ("X 00", 1),
-        ("X 01", 1),
-        ("X +1", 1),
-        ("X -1", 1),
-        ("X a", 1),
-        ("X  0", 1),
-        ("X 0 ", 1),
-        (" X 0", 1),
-        ("X 0 1", 1),
-        ("X 0\r", 1),
-        ("X 0\r\n", 1),
-        ("X\t0", 1),
-        ("X 0 # flip", 1),
-        ("X", 1),
-        ("X ", 1),
-        ("X 4294967296", 1),
-        ("x 0", 1),
-        ("h 0", 1),
-        ("H 16", 1),
-        ("Y 0", 1),
-        ("T 0\n", 1),
-        ("CNOT 1 1", 1),
-        ("CNOT 3 3\n", 1),
-        ("CNOT 1", 1),
-        ("CNOT 1 ", 1),
-        ("CNOT 1 2 3", 1),
-        ("CNOT 1  2", 1),
-        ("CNOT 16 0", 1),
-        ("CNOT 0 16", 1),
-        ("cnot 0 1", 1),
-        // Measurements.
-        ("DECLARE ro BIT\nMEASURE 0 ro[1]", 2),
-        ("DECLARE ro BIT\nMEASURE 0 ro", 2),
-        ("DECLARE ro BIT\nMEASURE 0 ro[00]", 2),
-        ("DECLARE ro BIT\nMEASURE 0 ro[0", 2),
-        ("DECLARE ro BIT\nMEASURE 0 ro [0]", 2),
-        ("DECLARE ro BIT\nMEASURE 0 ro[0] ", 2),
-        ("DECLARE ro BIT\nMEASURE 16 ro[0]", 2),
-        ("DECLARE ro BIT\nMEASURE ro[0]", 2),
-        ("DECLARE ro BIT\nMEASURE 0 rx[0]", 2),
-        ("DECLARE ro BIT\nMEASURE 0 ro[99999999999999999999]", 2),
-        ("MEASURE 0 ro[0]\nDECLARE ro BIT", 1),
-        ("MEASURE", 1),
-        ("MEASURE ", 1),
-        ("measure 0", 1),
-        // HALT.
-        ("HALT ", 1),
-        ("HALTX", 1),
-        ("halt", 1),
-        ("HAL", 1),
-        ("HALT\r\n", 1),
-        // The first line at which it breaks, of all lines.
-        (" ", 1),
-        ("\n \nY 0", 2),
-        ("\nX 0\n\nX 16\n", 4),
-        ("\n\nX 0\n\nX 16\nX 17", 5),
-        ("DECLARE ro BIT\n\nHALT\nY 0\n", 4),
-    ] {
-        let broken = format!(in alloc; "error: 57 NotBuilt line={line}\n")?;
-        check_all(&rt, alloc, &[(text, broken.as_str(), 1)])?;
-    }
-    Ok(())
-}
-
 #[test]
 fn other_words_are_usage_and_read_nothing(rt: HostRuntime) -> Result<(), Fail> {
     let alloc = rt.alloc();
@@ -318,7 +204,7 @@ fn a_sink_that_fills_up_has_a_front(rt: HostRuntime) -> Result<(), Fail> {
     Ok(())
 }
 
-fn repeated(alloc: Global, line: &str, count: usize) -> Result<String, AllocError> {
+pub(crate) fn repeated(alloc: Global, line: &str, count: usize) -> Result<String, AllocError> {
     let mut text = String::new(alloc);
     for _ in 0..count {
         text.push_str(line)?;

@@ -46,6 +46,15 @@ pub(crate) fn memory_text(
     Ok(text)
 }
 
+/// Adds the decimal digits of a number.
+pub(crate) fn push_decimal(alloc: Global, text: &mut Vec<u8>, number: u64) -> Result<(), AllocError>
+    ensures { OnOk result (text.new.items ≡ text.old.items ++ decimal number) }
+{
+    let digits = format!(in alloc; "{number}")?;
+    text.extend_from_slice(digits.as_bytes())?;
+    Ok(())
+}
+
 /// Adds a line: some words, and the decimal digits of a number.
 pub(crate) fn push_numbered(
     alloc: Global,
@@ -55,9 +64,8 @@ pub(crate) fn push_numbered(
 ) -> Result<(), AllocError>
     ensures { OnOk result (text.new.items ≡ text.old.items ++ front.now ++ decimal number ++ codes "\n") }
 {
-    let digits = format!(in alloc; "{number}")?;
     text.extend_from_slice(front.as_bytes())?;
-    text.extend_from_slice(digits.as_bytes())?;
+    push_decimal(alloc, text, number)?;
     text.push(b'\n')?;
     Ok(())
 }

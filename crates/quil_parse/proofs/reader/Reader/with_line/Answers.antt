@@ -1,6 +1,0 @@
-use Rattle.quil_parse.specs.View.{shown}
-use Rattle.quil_parse.proofs.Results.{Steps-line}
-use Rattle.quil_parse.proofs.reader.Reader.with_line.Goals as goal
-
-pub returns : goal.returns
-returns c = Steps-line c.with.result c.args.self c.args.number c.args.text.now (shown c.in-Some.line) c.in-Some.ensures.found c.with.ensures
