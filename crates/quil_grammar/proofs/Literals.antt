@@ -21,7 +21,7 @@ use Rattle.quil_tree.specs.declared.expr.Sign.{Sign}
 use Rattle.quil_tree.specs.declared.statement.Operand.{Operand}
 use Rattle.quil_tree.specs.declared.statement.Operand.TheVariants as operand
 use Rattle.quil_grammar.specs.Token.{Token}
-use Rattle.quil_grammar.specs.Grammar.{quil, tables, accepts, Event, Sum, Product, Unary, Power, Primary, OperandSum, OperandProduct, OperandUnary, OperandPower, OperandPrimary, more_terms, more_factors, exponent, is_digit, whole_of, value_behind, sign_of, operator_of, function_of, is_operator_next, is_wide, is_wide_whole_next}
+use Rattle.quil_grammar.specs.Grammar.{quil, tables, accepts, Event, Sum, Product, Unary, Power, Primary, OperandSum, OperandUnary, OperandPower, OperandPrimary, more_terms, more_factors, exponent, is_digit, whole_of, value_behind, sign_of, operator_of, function_of, is_operator_next, is_wide, is_wide_whole_next}
 use Rattle.quil_grammar.specs.Grammar.Event.{Stands, Between, Joined, Opens, Closes}
 use Rattle.quil_grammar.specs.Grammar.Around.{Signed, Parenthesized, Argument}
 use Rattle.quil_grammar.specs.Written.{Written, events, start, formula_of, operand_of}

@@ -1,5 +1,5 @@
 -- A line of a body leaves the names of its definition as they are.
-use Rattle.std.proofs.Common.{◌≡◌, ℕ, ◌+◌, Bool, true, false, not, cond, nat_lt, List, [], ◌∷◌, ◌++◌, map, length, position, refl, ap, subst, ◌∙◌, ◌≤◌, arith, le_antisymm, if◌then◌else◌, Option, Some, None}
+use Rattle.std.proofs.Common.{◌≡◌, true, List, [], ◌∷◌, ◌++◌, refl, subst, Option, Some, None}
 use Rattle.quil_tree.specs.declared.statement.Line.{Line}
 use Rattle.quil_tree.specs.declared.item.Item.{Item}
 use Rattle.quil_tree.specs.declared.item.Item.TheVariants as item

@@ -1,5 +1,5 @@
 -- A text as a program: which lines stand where, and the first fault of a text that is none.
-use Rattle.std.specs.Prelude.{◌≡◌, ℕ, ◌<◌, ◌≤◌, ◌||◌, Bool, true, false, ◌&&◌, List, [], ◌∷◌, ◌++◌, length, map, reverse, Option, Some, None, Result, Ok, Err, if◌then◌else◌}
+use Rattle.std.specs.Prelude.{◌≡◌, ℕ, ◌<◌, ◌≤◌, ◌||◌, Bool, true, false, ◌&&◌, List, [], ◌∷◌, ◌++◌, length, reverse, Option, Some, None, Result, Ok, Err, if◌then◌else◌}
 use Rattle.quil_lex.specs.declared.segment.End.{End}
 use Rattle.quil_lex.specs.declared.segment.End.TheVariants as end
 use Rattle.quil_lex.specs.Reading.{Lexeme, Span, IsReading}
@@ -8,7 +8,6 @@ use Rattle.quil_shape.specs.Verdict.{Verdict, IsVerdict, IsReading as IsWhole}
 use Rattle.quil_shape.specs.Verdict.Verdict.{Read, Refused, TooLarge}
 use Rattle.quil_tree.specs.declared.place.Place.{Place}
 use Rattle.quil_tree.specs.declared.statement.Line.{Line}
-use Rattle.quil_tree.specs.declared.statement.Name.{Name as Called}
 use Rattle.quil_tree.specs.declared.item.Form.{Form}
 use Rattle.quil_tree.specs.declared.item.Form.TheVariants as form
 use Rattle.quil_tree.specs.declared.item.CircuitDefinition.{CircuitDefinition}

@@ -1,6 +1,6 @@
 -- What the reader of a program holds, and what it tells of each line. Nobody has to believe these: the clauses of `parse` say
 -- what is read.
-use Rattle.std.specs.Prelude.{◌≡◌, ℕ, ◌<◌, ◌⊎◌, Bool, true, false, map, List, [], ◌∷◌, length, reverse, Option, Some, None, Result, Ok, Err}
+use Rattle.std.specs.Prelude.{◌≡◌, ◌<◌, ◌⊎◌, Bool, true, false, List, [], ◌∷◌, length, reverse, Option, Some, None, Result, Ok, Err}
 use Rattle.quil_lex.specs.Reading.{Span}
 use Rattle.quil_shape.specs.Shape.{Shape}
 use Rattle.quil_shape.specs.Verdict.{Verdict, IsVerdict, IsReading as IsWhole}

@@ -1,5 +1,5 @@
 -- Pragmas that were read are printed and read again.
-use Rattle.std.proofs.Common.{◌≡◌, ℕ, ◌⊎◌, inl, inr, Bool, true, false, not, ◌||◌, List, [], ◌∷◌, ◌++◌, map, Some, refl, sym, ◌∙◌, ap, ap₂, subst, append_assoc, append-nil, codes, if◌then◌else◌}
+use Rattle.std.proofs.Common.{◌≡◌, ℕ, ◌⊎◌, inl, inr, Bool, true, false, not, List, [], ◌∷◌, ◌++◌, map, Some, refl, sym, ◌∙◌, ap, ap₂, subst, append_assoc, append-nil, codes, if◌then◌else◌}
 use Rattle.std.specs.Prelude.{bytes_eq, filter_map}
 use Rattle.std.specs.Char.{is_ascii_digit}
 use Rattle.std.specs.List.{list_all}
@@ -14,7 +14,7 @@ use Rattle.quil_shape.specs.Outcome.Outcome.{Made}
 use Rattle.quil_shape.specs.Reads.{Reads}
 use Rattle.quil_tree.specs.declared.statement.Name.{Name as Called}
 use Rattle.quil_tree.specs.declared.statement.Statement.TheVariants as statement
-use Rattle.quil_tree.specs.Printed.{is_mark_behind, is_mark_before, pragma_text}
+use Rattle.quil_tree.specs.Printed.{is_joined, is_mark_behind, is_mark_before, pragma_text}
 use Rattle.quil_grammar.specs.declared.sort.Sort.TheVariants as sort
 use Rattle.quil_grammar.specs.declared.class.Class.TheVariants as class
 use Rattle.quil_grammar.specs.Sort.{word_sort}
@@ -124,15 +124,14 @@ closed_before k x h m =
 
 -- the word of a token that stands behind another
 abbrev behind : Word → Kind → List ℕ → Word
-behind before k x = record { kind = k; text = x; blank = not (is_mark_behind x || is_mark_before before.text) }
+behind before k x = record { kind = k; text = x; blank = not (is_joined before.text x) }
 
 told : (before : Word) (k : Kind) (x : List ℕ) (ws : List Word) → IsToken before.kind before.text → IsApartFrom before (behind before k x ∷ ws)
-told before k x ws h = by (is_mark_behind x) (is_mark_before before.text) refl refl
+told before k x ws h = by (is_joined before.text x) refl
   where
-    by : (m n : Bool) → is_mark_behind x ≡ m → is_mark_before before.text ≡ n → (not (m || n) ≡ true) ⊎ ((is_closed before.kind ≡ true) ⊎ (begins_more x ≡ false))
-    by true n e f = inr (inr (mark_behind x e))
-    by false true e f = inr (inl (closed_before before.kind before.text h f))
-    by false false e f = inl refl
+    by : (b : Bool) → is_joined before.text x ≡ b → (not b ≡ true) ⊎ ((is_closed before.kind ≡ true) ⊎ (begins_more x ≡ false))
+    by false e = inl refl
+    by true e = elim (or_cases (is_mark_behind x) (is_mark_before before.text) (and_parts _ _ e).1) [ inl f ↦ inr (inr (mark_behind x f)) | inr f ↦ inr (inl (closed_before before.kind before.text h f)) ]
 
 spaced : (b : Bool) (x : List ℕ) → (if not b then 32 ∷ x else x) ≡ (if b then [] else codes " ") ++ x
 spaced true x = refl
@@ -161,7 +160,7 @@ kept c before h (Chain.link r rs) f =
       words = w ∷ k.words;
       told = told before t.fits.kind t.token.text k.words h;
       apart = (t.fits.text, k.told, k.apart);
-      text = ap₂ (λ x y. x ++ y) (spaced (is_mark_behind t.token.text || is_mark_before before.text) t.token.text) k.text;
+      text = ap₂ (λ x y. x ++ y) (spaced (is_joined before.text t.token.text) t.token.text) k.text;
       reads = Reads.more accepted (Reads.one accepted refl) k.reads;
     }
 

@@ -1,5 +1,5 @@
 -- The text of a tree: one statement a line, and one more line for each row or statement of a body.
-use Rattle.std.specs.Prelude.{ℕ, Bool, true, false, ◌||◌, bytes_eq, List, [], ◌∷◌, ◌++◌, Option, Some, None, codes, slice_get, if◌then◌else◌}
+use Rattle.std.specs.Prelude.{ℕ, Bool, true, false, ◌||◌, not, ◌&&◌, bytes_eq, List, [], ◌∷◌, ◌++◌, Option, Some, None, codes, slice_get, if◌then◌else◌}
 use Rattle.std.specs.List.{flat_map, list_all}
 use Rattle.std.specs.Char.{is_ascii_digit}
 use Rattle.quil_tree.specs.declared.expr.Address.{Address}
@@ -161,10 +161,14 @@ is_mark_behind x = bytes_eq x (codes ",") || (bytes_eq x (codes "(") || (bytes_e
 abbrev pub is_mark_before : List ℕ → Bool
 is_mark_before x = bytes_eq x (codes "(") || bytes_eq x (codes "[")
 
+-- no blank stands between two tokens; behind a comma there is always one
+abbrev pub is_joined : List ℕ → List ℕ → Bool
+is_joined before x = not (bytes_eq before (codes ",")) && (is_mark_behind x || is_mark_before before)
+
 -- the tokens of a pragma behind another token
 abbrev pub pragma_text : List ℕ → List (List ℕ) → List ℕ
 pragma_text before [] = []
-pragma_text before (x ∷ xs) = (if is_mark_behind x || is_mark_before before then [] else codes " ") ++ x ++ pragma_text x xs
+pragma_text before (x ∷ xs) = (if is_joined before x then [] else codes " ") ++ x ++ pragma_text x xs
 
 abbrev pub maybe_reference : Option Reference → List ℕ
 maybe_reference None = []

@@ -186,6 +186,8 @@ fn pragmas_have_these_texts(rt: HostRuntime) -> Result<(), Fail> {
         ("[ 2 ] : 3", "PRAGMA fast[2]: 3\n"),
         ("a + b", "PRAGMA fast a + b\n"),
         ("( ( 1 ) 2", "PRAGMA fast((1) 2\n"),
+        ("1 , ( 2 )", "PRAGMA fast 1, (2)\n"),
+        ("b , , c : ]", "PRAGMA fast b, , c:]\n"),
     ] {
         let printed = print_item(rt.alloc(), &line(pragma(rt.alloc(), tokens)?))?;
         assert!(rt; printed.as_bytes() == want.as_bytes(), "at {tokens}");

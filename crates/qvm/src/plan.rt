@@ -2,7 +2,7 @@
 //!
 //! Each item but a pragma is printed, and its line is read. The contract is by a relation between items and programs
 //! (`specs/Spelling`, `specs/Cut`), which shares nothing with the reader: on Ok the plan is the one plan of the tree, and
-//! NotBuilt tells the line of the first item whose printed line breaks the cut.
+//! NotBuilt tells where in the source the item stands with which the tree leaves the cut.
 
 ghost use Rattle.std.specs.Prelude.{◌≡◌, ℕ, ◌≤◌, length, Ok, Err, IfOk};
 ghost use Rattle.quil_tree.specs.declared.statement.Statement.{Statement};
