@@ -402,11 +402,13 @@ pub(crate) fn told(alloc: Global, text: &[u8]) -> Result<String, AllocError> {
 fn without_places(alloc: Global, said: &str) -> Result<Vec<u8>, AllocError> {
     let mut bytes = Vec::new(alloc);
     let mut in_place = true;
+    let mut between = false;
     for byte in said.as_bytes() {
         if in_place && (byte.is_ascii_digit() || *byte == b':') {
             continue;
         }
-        in_place = *byte == b'@' || *byte == b'|' || (in_place && *byte == b' ');
+        in_place = *byte == b'@' || *byte == b'{' || (between && *byte == b' ');
+        between = *byte == b'|' || *byte == b';';
         bytes.push(*byte)?;
     }
     Ok(bytes)
