@@ -30,8 +30,8 @@ pub(crate) fn push_statement(
         Statement::Pragma(name, tokens) => push_pragma(text, name, tokens.as_slice()),
         Statement::Label(name) => push_named(text, b"LABEL ", name),
         Statement::Jump(name) => push_named(text, b"JUMP ", name),
-        Statement::JumpWhen(name, a) => push_branch(text, b"JUMP-WHEN ", name, a),
-        Statement::JumpUnless(name, a) => push_branch(text, b"JUMP-UNLESS ", name, a),
+        Statement::JumpWhen(name, a) => push_name_and_reference(text, b"JUMP-WHEN ", name, a),
+        Statement::JumpUnless(name, a) => push_name_and_reference(text, b"JUMP-UNLESS ", name, a),
         Statement::Not(a) => push_unary(text, b"NOT ", a),
         Statement::Neg(a) => push_unary(text, b"NEG ", a),
         Statement::Exchange(a, b) => push_two(text, b"EXCHANGE", a, b),
@@ -96,17 +96,17 @@ fn push_named(text: &mut Vec<u8>, word: &[u8], name: &Name) -> Result<(), AllocE
     text.extend_from_slice(name.text.as_bytes())
 }
 
-fn push_branch(
+fn push_name_and_reference(
     text: &mut Vec<u8>,
     word: &[u8],
     name: &Name,
-    condition: &Reference,
+    reference: &Reference,
 ) -> Result<(), AllocError>
-    ensures { OnOk result (text.new.items ≡ text.old.items ++ (word.now ++ name.now.text ++ codes " " ++ reference_text condition.now)) }
+    ensures { OnOk result (text.new.items ≡ text.old.items ++ (word.now ++ name.now.text ++ codes " " ++ reference_text reference.now)) }
 {
     push_named(text, word, name)?;
     text.extend_from_slice(b" ")?;
-    push_reference(text, condition)
+    push_reference(text, reference)
 }
 
 fn push_unary(text: &mut Vec<u8>, word: &[u8], target: &Reference) -> Result<(), AllocError>
@@ -157,7 +157,7 @@ fn push_load(
     ensures { OnOk result (text.new.items ≡ text.old.items ++ (codes "LOAD " ++ reference_text target.now ++ codes " " ++ region.now.text ++ codes " " ++ reference_text index.now)) }
 {
     push_unary(text, b"LOAD ", target)?;
-    push_branch(text, b" ", region, index)
+    push_name_and_reference(text, b" ", region, index)
 }
 
 fn push_store(
@@ -170,7 +170,7 @@ fn push_store(
 ) -> Result<(), AllocError>
     ensures { OnOk result (text.new.items ≡ text.old.items ++ (codes "STORE " ++ region.now.text ++ codes " " ++ reference_text index.now ++ codes " " ++ operand_text names.now operand.now)) }
 {
-    push_branch(text, b"STORE ", region, index)?;
+    push_name_and_reference(text, b"STORE ", region, index)?;
     text.extend_from_slice(b" ")?;
     push_operand(text, alloc, names, operand)
 }
