@@ -35,7 +35,7 @@ AtEnd us = us ≡ []
 abbrev pub blank : List ℕ → List ℕ
 blank x = 32 ∷ x
 
-free_append : (ws vs : List Word) → IsFree ws → IsFree vs → IsFree (ws ++ vs)
+pub free_append : (ws vs : List Word) → IsFree ws → IsFree vs → IsFree (ws ++ vs)
 free_append [] vs p q = q
 free_append (w ∷ ws) vs p q = p
 

@@ -150,11 +150,11 @@ pub decided_numbers : is_decided_by_one_token quil tables permutation_row ≡ tr
 unfolding quil tables
 decided_numbers = refl
 
-decided_nowhere : is_decided_by_one_token quil tables nowhere ≡ true
+pub decided_nowhere : is_decided_by_one_token quil tables nowhere ≡ true
 unfolding quil tables
 decided_nowhere = refl
 
-decided_nothing : is_decided_by_one_token quil tables nothing ≡ true
+pub decided_nothing : is_decided_by_one_token quil tables nothing ≡ true
 unfolding quil tables
 decided_nothing = refl
 

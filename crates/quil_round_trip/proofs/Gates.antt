@@ -40,7 +40,8 @@ use Rattle.quil_round_trip.proofs.Words.{tok, Fits, AreFit, sort_class, kind_of_
 use Rattle.quil_round_trip.proofs.Soundness.{fits_left}
 use Rattle.quil_round_trip.proofs.Pieces.{Piece, Anything, NoOperator}
 use Rattle.quil_round_trip.proofs.Chunks.{Chunk, AtEnd, blank, then_chunk, before, with_text, with_events, word, mark as mark_chunk, of_piece, first, both, either}
-use Rattle.quil_round_trip.proofs.Repeated.{starts_one, starts_first, starts_read, starts_other, more_chunk, none_chunk, first_chunk, second_chunk, piece_then, parenthesis_then}
+use Rattle.quil_round_trip.proofs.Openings.{piece_then, many_none}
+use Rattle.quil_round_trip.proofs.Repeated.{starts_one, starts_first, starts_read, starts_other, more_chunk, first_chunk, second_chunk, parenthesis_then}
 use Rattle.quil_round_trip.proofs.Parts.{ReadValue, read_value}
 use Rattle.quil_round_trip.proofs.Expressions.{canon, expression_piece, mark_token, same_text}
 use Rattle.quil_round_trip.proofs.Operands.{text_of_steps, formula_bare}
@@ -242,7 +243,7 @@ record MoreFormulas (c : Context) (os : List Event) : Type 0 where
   pub chunk : Chunk c (Many behind_comma) Ending (flat_map (λ y. codes ", " ++ y) (formula_texts c.parameters (map formula_of written))) (parts_events (values (map again_of written)))
 
 more_formulas : (c : Context) {ts us : List Token} {os : List Event} → Chain quil tables behind_comma ts os us → AreFit c ts → MoreFormulas c os
-more_formulas c Chain.done f = record { written = []; makes = refl; chunk = none_chunk c behind_comma Ending (λ us e. ended us e) }
+more_formulas c Chain.done f = record { written = []; makes = refl; chunk = many_none {B = Ending} c behind_comma (λ us e. ended us e) }
 more_formulas c (Chain.link {us = us} r rs) f =
     let b = both c r f in
     let t = first c b.one f in
@@ -316,7 +317,7 @@ none_left : (k : Class) (us : List Token) → us ≡ [] → starts quil tables (
 none_left k us e = rw e refl
 
 qubits_again : (c : Context) {ts us : List Token} {os : List Event} → Chain quil tables (One class.Qubit) ts os us → AreFit c ts → Qubits c os
-qubits_again c Chain.done f = record { qubits = []; makes = refl; chunk = none_chunk c (One class.Qubit) AtEnd (λ us e. none_left class.Qubit us e) }
+qubits_again c Chain.done f = record { qubits = []; makes = refl; chunk = many_none {B = AtEnd} c (One class.Qubit) (λ us e. none_left class.Qubit us e) }
 qubits_again c (Chain.link {us = us} r rs) f =
     let t = first c r f in
     let m = qubits_again c rs t.rest in
@@ -464,7 +465,7 @@ record Modifiers (c : Context) (os : List Event) : Type 0 where
   pub chunk : Chunk c (Many (One class.Modifier)) NoModifier (said_text said) (parts_events (saying (map bare_spoken said)))
 
 modifiers_again : (c : Context) {ts us : List Token} {os : List Event} → Chain quil tables (One class.Modifier) ts os us → AreFit c ts → Modifiers c os
-modifiers_again c Chain.done f = record { said = []; makes = refl; chunk = none_chunk c (One class.Modifier) NoModifier (λ us e. e) }
+modifiers_again c Chain.done f = record { said = []; makes = refl; chunk = many_none {B = NoModifier} c (One class.Modifier) (λ us e. e) }
 modifiers_again c (Chain.link r rs) f =
     let t = first c r f in
     let m = modifiers_again c rs t.rest in

@@ -1,5 +1,5 @@
 -- The words of statements as they are printed: each is read as the sort that it was printed for.
-use Rattle.std.proofs.Common.{◌≡◌, ℕ, inl, inr, Bool, true, ◌||◌, List, ◌∷◌, ◌++◌, refl, sym, append_assoc, subst, codes}
+use Rattle.std.proofs.Common.{◌≡◌, ℕ, inl, inr, Bool, true, ◌||◌, List, ◌++◌, refl, sym, append_assoc, subst, codes}
 use Rattle.std.proofs.lemmas.Bool.{or_cases}
 use Rattle.quil_lex.specs.declared.token.Kind.TheVariants as kind
 use Rattle.quil_lex.specs.Written.{IsLineToken}
@@ -17,14 +17,12 @@ use Rattle.quil_grammar.proofs.Sorts.{same_sort}
 use Rattle.quil_round_trip.specs.Unplaced.{bare_name, bare_reference, bare_operand, bare_statement}
 use Rattle.quil_statement.specs.Meaning.{bare_of, label_of, jump_of, unary_of, pair_of, binary_of, compare_of}
 use Rattle.quil_round_trip.proofs.Words.{tok}
+use Rattle.quil_round_trip.proofs.Chunks.{blank}
 
 -- a word that is read as this sort, wherever it stands
 pub record Keyword (s : Sort) (x : List ℕ) : Type 0 where
   pub is_token : IsLineToken kind.Name x
   pub same : (c : Context) → (tok c kind.Name x).sort ≡ s
-
-abbrev pub blank : List ℕ → List ℕ
-blank x = 32 ∷ x
 
 pub record BareWord (s : Sort) : Type 0 where
   pub word : List ℕ

@@ -29,3 +29,4 @@ pub mod Bodies
 pub mod Ends
 pub mod Programs
 pub mod RoundTrip
+pub mod Totality

@@ -14,9 +14,9 @@ use Rattle.quil_grammar.specs.declared.class.Class.{Class}
 use Rattle.quil_grammar.specs.Token.{Token, Context}
 use Rattle.quil_grammar.specs.Grammar.{quil, tables, accepts, value_of, is_too_large, Name, Event}
 use Rattle.quil_grammar.specs.Statements.{maybe}
-use Rattle.quil_round_trip.proofs.Words.{tok, bare, Fits, toks, toks_append, bytes_append, apart_append, IsFree}
+use Rattle.quil_round_trip.proofs.Words.{tok, bare, Fits, toks, toks_append, bytes_append, apart_append}
 use Rattle.quil_round_trip.proofs.Pieces.{Piece, Anything}
-use Rattle.quil_round_trip.proofs.Chunks.{Chunk, blank, then_chunk, with_events}
+use Rattle.quil_round_trip.proofs.Chunks.{Chunk, blank, free_append, then_chunk, with_events}
 
 -- ---- pieces
 
@@ -104,10 +104,6 @@ tight {c = c} {k = k} {l = l} {m = m} {n = n} {b = b} {d = d} {s = s} {x = x} {o
         (subst (λ xs. Reads quil tables (Seq (One k) (Seq s (One l))) (tok c (kind.Mark m) (b ∷ []) ∷ (tok c p.kind p.front ∷ (toks c p.rest ++ (tok c (kind.Mark n) (d ∷ []) ∷ us)))) (Made xs us)) made
         (Reads.seq (Reads.one o.accepted (o.small _)) (Reads.seq (p.reads (tok c (kind.Mark n) (d ∷ []) ∷ us) (h us)) (Reads.one e.accepted (e.small us)))))
 
-free_both : (ws vs : List Word) → IsFree ws → IsFree vs → IsFree (ws ++ vs)
-free_both [] vs p q = q
-free_both (w ∷ ws) vs p q = p
-
 starts_seq : (a b : Shape Class Event Name) (ts : List Token) → starts quil tables a ts ≡ true → starts quil tables (Seq a b) ts ≡ true
 starts_seq a b [] h = h
 starts_seq a b (t ∷ ts) h = or_left _ _ h
@@ -128,7 +124,7 @@ open_then {c = c} {a = a} {b = b} {x = x} {y = y} {os = os} {ps = ps} o q h =
           record {
             words = p.words ++ q.words;
             apart = apart_append p.words q.words p.apart q.apart q.free;
-            free = free_both p.words q.words p.free q.free;
+            free = free_append p.words q.words p.free q.free;
             text = bytes_append p.words q.words ∙ ap (λ z. z ++ words_bytes q.words) p.text ∙ ap (λ z. x ++ z) q.text;
             reads = λ us k. subst (λ ts. Reads quil tables (Seq a b) ts (Made (os ++ ps) us)) (sym (toks_append c p.words q.words us)) (Reads.seq (p.reads (toks c q.words ++ us) (h us k)) (q.reads us k));
           };
@@ -162,7 +158,7 @@ many_more {c = c} {a = a} {x = x} {y = y} {os = os} {ps = ps} o q h =
     record {
       words = p.words ++ q.words;
       apart = apart_append p.words q.words p.apart q.apart q.free;
-      free = free_both p.words q.words p.free q.free;
+      free = free_append p.words q.words p.free q.free;
       text = bytes_append p.words q.words ∙ ap (λ z. z ++ words_bytes q.words) p.text ∙ ap (λ z. x ++ z) q.text;
       reads = λ us k. subst (λ ts. Reads quil tables (Many a) ts (Made (os ++ ps) us)) (sym (toks_append c p.words q.words us)) (Reads.more (o.opened (toks c q.words ++ us)) (p.reads (toks c q.words ++ us) (h us k)) (q.reads us k));
     }

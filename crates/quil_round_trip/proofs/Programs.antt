@@ -272,12 +272,12 @@ circuit_step d is js m e r =
 -- ---- any line
 
 -- a line that isn't empty has a token
-record SomeLexemes (span : Span) : Type 0 where
-  first : Lexeme
-  others : List Lexeme
-  all : span.lexemes ≡ first ∷ others
+pub record SomeLexemes (span : Span) : Type 0 where
+  pub first : Lexeme
+  pub others : List Lexeme
+  pub all : span.lexemes ≡ first ∷ others
 
-some_lexemes : (span : Span) → is_empty span ≡ false → bad_token span.line span.end ≡ [] → SomeLexemes span
+pub some_lexemes : (span : Span) → is_empty span ≡ false → bad_token span.line span.end ≡ [] → SomeLexemes span
 some_lexemes span e b = by span.lexemes span.end refl refl (subst (λ x. x ≡ []) refl b) e
   where
     by : (ls : List Lexeme) (f : End) → span.lexemes ≡ ls → span.end ≡ f → bad_token span.line f ≡ [] → (has_no_lexeme ls && ends_well f) ≡ false → SomeLexemes span

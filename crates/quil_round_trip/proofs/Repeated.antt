@@ -1,5 +1,5 @@
 -- Choices and repetitions that are printed and read again, and how a reading begins.
-use Rattle.std.proofs.Common.{◌≡◌, ℕ, inl, inr, true, false, List, [], ◌∷◌, ◌++◌, refl, sym, ◌∙◌, ap, subst, codes}
+use Rattle.std.proofs.Common.{◌≡◌, ℕ, inl, inr, true, false, List, [], ◌∷◌, ◌++◌, refl, sym, ap, subst, codes}
 use Rattle.std.proofs.lemmas.Bool.{or_left}
 use Rattle.quil_lex.specs.declared.token.Kind.TheVariants as kind
 use Rattle.quil_lex.specs.declared.token.Mark.TheVariants as mark
@@ -16,7 +16,7 @@ use Rattle.quil_round_trip.proofs.Inversion.{one, seq}
 use Rattle.quil_round_trip.proofs.Words.{toks}
 use Rattle.quil_round_trip.proofs.Pieces.{Piece}
 use Rattle.quil_round_trip.proofs.Chunks.{Chunk}
-use Rattle.quil_round_trip.proofs.Expressions.{word, mark_token, apart_then, text_then, reads_then}
+use Rattle.quil_round_trip.proofs.Expressions.{word, mark_token}
 
 -- ---- how a reading begins
 
@@ -43,9 +43,6 @@ starts_other k j (t ∷ ts) h e = h t.sort e
 
 -- ---- repetitions
 
-pub none_chunk : (c : Context) (a : Shape Class Event Name) (B : List Token → Type 0) → ((us : List Token) → B us → starts quil tables a us ≡ false) → Chunk c (Many a) B [] []
-none_chunk c a B h = record { words = []; apart = tt; free = tt; text = refl; reads = λ us b. Reads.none (h us b) }
-
 -- one, and then more of them
 pub more_chunk : {c : Context} {a : Shape Class Event Name} {B : List Token → Type 0} {x : List ℕ} {os : List Event} → Chunk c (Seq a (Many a)) B x os → ((ts us : List Token) (ps : List Event) → Reads quil tables a ts (Made ps us) → starts quil tables a ts ≡ true) → Chunk c (Many a) B x os
 more_chunk {c = c} {a = a} {os = os} p s =
@@ -66,19 +63,6 @@ pub second_chunk : {c : Context} {a b : Shape Class Event Name} {B : List Token 
 second_chunk p s = record { words = p.words; apart = p.apart; free = p.free; text = p.text; reads = λ us k. (let r = p.reads us k in Reads.right (or_left _ _ (s _ _ r)) r) }
 
 -- ---- pieces
-
-pub piece_then : {c : Context} {a b : Shape Class Event Name} {A B : List Token → Type 0} {x y : List ℕ} {os ps : List Event} → Piece c a A x os → (q : Chunk c b B y ps) → ((us : List Token) → B us → A (toks c q.words ++ us)) → Piece c (Seq a b) B (x ++ y) (os ++ ps)
-unfolding quil tables
-piece_then {c = c} {a = a} {b = b} {x = x} {y = y} {os = os} {ps = ps} p q h =
-    record {
-      kind = p.kind;
-      front = p.front;
-      rest = p.rest ++ q.words;
-      apart = apart_then p q.words q.apart q.free;
-      text = text_then p q.words ∙ ap (λ z. x ++ z) q.text;
-      opened = or_left _ _ p.opened;
-      reads = λ us k. Reads.seq (reads_then p q.words us (h us k)) (q.reads us k);
-    }
 
 -- a piece behind a parenthesis, without a blank
 pub parenthesis_then : {c : Context} {s : Shape Class Event Name} {B : List Token → Type 0} {x : List ℕ} {os : List Event} → Piece c s B x os → Chunk c (Seq (One class.ListBegins) s) B (codes "(" ++ x) os
