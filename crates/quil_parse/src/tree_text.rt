@@ -215,6 +215,13 @@ fn classical(alloc: Global, word: &str, statement: &Statement) -> Said {
         | Statement::Xor(a, x) => {
             joined(alloc, word, &[reference(alloc, a)?, operand(alloc, x)?])
         }
+        other => three_parts(alloc, word, other),
+    }
+}
+
+// An instruction on memory with three parts, or one without parts.
+fn three_parts(alloc: Global, word: &str, statement: &Statement) -> Said {
+    match statement {
         Statement::Load(a, x, n) => {
             joined(
                 alloc,
@@ -362,6 +369,9 @@ fn circuit_definition(alloc: Global, defined: &CircuitDefinition) -> Said {
 
 /// The items, with a bar between each two.
 pub(crate) fn tree_text(alloc: Global, tree: &Tree) -> Said {
+    if tree.as_slice().is_empty() {
+        return format!(in alloc; "nothing");
+    }
     let mut said = String::new(alloc);
     for item in tree.as_slice() {
         if !said.is_empty() {
@@ -428,17 +438,29 @@ fn is_read_again(alloc: Global, text: &[u8]) -> Result<bool, AllocError> {
     Ok(first.as_slice() == second.as_slice())
 }
 
-/// The rows whose text gives something else than is wanted, with what it gives, or whose tree isn't printed as itself.
-pub(crate) fn misses(alloc: Global, rows: &[(&str, &str)]) -> Result<String, AllocError> {
+// What is wrong of a text that is to give this: it gives something else, or its tree isn't printed as itself.
+fn miss(alloc: Global, text: &str, want: &str) -> Said {
+    let found = told(alloc, text.as_bytes())?;
+    if found.as_str() != want {
+        return format!(in alloc; "\n{text:?} gives {found} and not {want}");
+    }
+    if is_read_again(alloc, text.as_bytes())? {
+        Ok(String::new(alloc))
+    } else {
+        format!(in alloc; "\n{text:?} is printed as another tree")
+    }
+}
+
+/// What is wrong of the rows of a table, one a line: a text, ` => `, and what it gives. In a text `⏎` stands for a line feed.
+pub(crate) fn misses(alloc: Global, table: &str) -> Said {
     let mut all = String::new(alloc);
-    for (text, want) in rows {
-        let found = told(alloc, text.as_bytes())?;
-        if found.as_str() != *want {
-            all.push_str(&format!(in alloc; "\n{text:?} gives {found} and not {want}")?)?;
-        }
-        if !is_read_again(alloc, text.as_bytes())? {
-            all.push_str(&format!(in alloc; "\n{text:?} is printed as another tree")?)?;
-        }
+    for row in table.lines() {
+        let Some((text, want)) = row.split_once(" => ") else {
+            all.push_str(row)?;
+            continue;
+        };
+        let text = text.replace(alloc, "⏎", "\n")?;
+        all.push_str(&miss(alloc, &text, want)?)?;
     }
     Ok(all)
 }
