@@ -1,5 +1,5 @@
 -- The items of a tree, one after the other.
-use Rattle.std.proofs.Common.{◌≡◌, refl, sym, ◌∙◌, ap, subst, ℕ, ◌<◌, ◌≤◌, Bool, true, false, List, [], ◌∷◌, ◌++◌, length, get_or, take, drop, Result, Ok, Err, ◌⊎◌, inl, inr, None, Some, IfOk, zero, suc, ◌+◌, add-one, append_assoc, append-nil, length-append, codes, All, arith}
+use Rattle.std.proofs.Common.{◌≡◌, refl, sym, ◌∙◌, ap, subst, ℕ, ◌<◌, ◌≤◌, Bool, true, false, List, [], ◌∷◌, ◌++◌, length, get_or, take, drop, Result, Ok, Err, ◌⊎◌, inl, inr, None, Some, IfOk, zero, suc, ◌+◌, add-one, append_assoc, length-append, codes, All, arith}
 use Rattle.std.specs.Prelude.{not, cond}
 use Rattle.std.proofs.Math.Seq.{take-suc}
 use Rattle.std.proofs.lemmas.List.{append_cancel_right}
@@ -16,7 +16,7 @@ use Rattle.qvm.specs.Cut.{Instructs, Makes, AddsText, AddsUnlessPragma, AddsItem
 use Rattle.qvm.specs.Answer.{Tells, Gives, Steps}
 use Rattle.qvm.proofs.Unique.{same_line, same_made}
 
-abbrev empty : Program
+abbrev pub empty : Program
 empty = record { regions = []; lines = [] }
 
 -- ---- an item leads to one program
@@ -58,7 +58,7 @@ pub items_more : (xs : List Item) (x : Item) (p q : Program) → IsPlanOf xs p �
 items_more xs x p q h k = items_join empty xs (x ∷ []) p q h (q, k, refl)
 
 -- items behind which this one doesn't fit aren't in the cut with it
-items_end : (xs : List Item) (x : Item) (p : Program) → IsPlanOf xs p → ((q : Program) → ¬ (AddsItem p x q)) → ¬ (IsInCut (xs ++ x ∷ []))
+pub items_end : (xs : List Item) (x : Item) (p : Program) → IsPlanOf xs p → ((q : Program) → ¬ (AddsItem p x q)) → ¬ (IsInCut (xs ++ x ∷ []))
 items_end xs x p h none k =
     let parts = items_split empty xs (x ∷ []) k.0 k.1 in
     let same = one_plan xs parts.0 p parts.1 h in
@@ -98,23 +98,6 @@ pub none_where_breaks : (tree : List Item) (k : ℕ) (p : Program) → BreaksAt 
 none_where_breaks tree k p h plan =
     let whole : tree ≡ (h.before ++ h.item ∷ []) ++ h.after = h.parts ∙ sym (append_assoc h.before (h.item ∷ []) h.after) in
     h.here (in_cut_front (h.before ++ h.item ∷ []) h.after (subst IsInCut whole (p, plan)))
-
--- where no item breaks a tree, it isn't outside the cut
-in_cut_so_far : (tree before rest : List Item) → tree ≡ before ++ rest → ((k : ℕ) → ¬ (BreaksAt tree k)) → IsInCut before → (IsInCut tree → ⊥) → ⊥
-in_cut_so_far tree before [] e none front out = out (subst IsInCut (sym (e ∙ append-nil before)) front)
-in_cut_so_far tree before (x ∷ rest) e none front out =
-    none (source_line x) (record {
-      before = before;
-      item = x;
-      after = rest;
-      parts = e;
-      front = front;
-      here = λ more. in_cut_so_far tree (before ++ x ∷ []) rest (e ∙ sym (append_assoc before (x ∷ []) rest)) none more out;
-      is_line = refl;
-    })
-
-pub plan_or_break : (tree : List Item) → ((p : Program) → ¬ (IsPlanOf tree p)) → ((k : ℕ) → ¬ (BreaksAt tree k)) → ⊥
-plan_or_break tree no_plan no_break = in_cut_so_far tree [] tree refl no_break (empty, refl) (λ h. no_plan h.0 h.1)
 
 -- ---- the text of a tree in the cut
 

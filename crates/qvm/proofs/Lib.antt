@@ -4,6 +4,7 @@ pub mod NamedRegions
 pub mod Unique
 pub mod Results
 pub mod Items
+pub mod Decisions
 pub mod WordLemmas
 pub mod Runs
 pub mod Regions

@@ -1,5 +1,5 @@
--- A text has one reply.
-use Rattle.std.proofs.Common.{◌≡◌, ◌≢◌, sym, ◌∙◌, ap, subst, ℕ, inl, inr, List}
+-- Each text has one reply.
+use Rattle.std.proofs.Common.{◌≡◌, ◌≢◌, ◌⊎◌, refl, sym, ◌∙◌, ap, subst, ℕ, inl, inr, List}
 use Rattle.quil_tree.specs.declared.item.Item.{Item}
 use Rattle.quil_grammar.specs.declared.fault.ReadFault.{ReadFault}
 use Rattle.quil_grammar.specs.declared.fault.ReadFault.TheVariants.{OutOfMemory}
@@ -7,6 +7,19 @@ use Rattle.quil_parse.specs.Program.{IsTreeOf, IsFaultOf}
 use Rattle.qvm_step.specs.Program.{Program}
 use Rattle.qvm.specs.Cut.{IsPlanOf, BreaksAt}
 use Rattle.qvm.specs.RunText.{Reply, IsReplyTo, IsReplyToTree, refused_reply, not_built_reply, run_reply}
+
+-- from the laws: a text is a tree or has a fault, and a tree has a plan or breaks at a line
+of_tree : (limit : ℕ) (text : List ℕ) (tree : List Item) → IsTreeOf text tree → ((p : Program) × IsPlanOf tree p) ⊎ ((k : ℕ) × BreaksAt tree k) → (r : Reply) × IsReplyTo limit text r
+of_tree limit text tree h (inl x) = (run_reply limit x.0, inr (record { tree = tree; is_tree = h; is_reply = inr (record { program = x.0; is_plan = x.1; is = refl }) }))
+of_tree limit text tree h (inr x) = (not_built_reply x.0, inr (record { tree = tree; is_tree = h; is_reply = inl (record { line = x.0; breaks = x.1; is = refl }) }))
+
+pub some_reply_by : ((text : List ℕ) → ((tree : List Item) × IsTreeOf text tree) ⊎ ((f : ReadFault) × (f ≢ OutOfMemory) × IsFaultOf text f))
+    → ((tree : List Item) → ((p : Program) × IsPlanOf tree p) ⊎ ((k : ℕ) × BreaksAt tree k)) → (limit : ℕ) (text : List ℕ) → (r : Reply) × IsReplyTo limit text r
+some_reply_by read plan limit text = by (read text)
+  where
+    by : ((tree : List Item) × IsTreeOf text tree) ⊎ ((f : ReadFault) × (f ≢ OutOfMemory) × IsFaultOf text f) → (r : Reply) × IsReplyTo limit text r
+    by (inl x) = of_tree limit text x.0 x.1 (plan x.0)
+    by (inr x) = (refused_reply x.0, inl (record { fault = x.0; known = x.1; is_fault = x.2; is = refl }))
 
 -- from the laws of the cut: a tree has one plan at most, breaks at one line at most, and doesn't do both
 module _ (plan : (tree : List Item) (p q : Program) → IsPlanOf tree p → IsPlanOf tree q → p ≡ q)

@@ -1,4 +1,4 @@
--- The first path's cut of Quil: which trees are in it, the plan of each, and the line at which a tree leaves it.
+-- The first cut of Quil: which trees are in it, the plan of each, and the line at which a tree leaves it.
 use Rattle.std.specs.Prelude.{◌≡◌, ℕ, ◌+◌, ◌<◌, ◌≤◌, Bool, true, false, not, List, [], ◌∷◌, ◌++◌, length, find, codes, Option, Some, None}
 use Rattle.std.specs.List.{flat_map, filter}
 use Rattle.std.specs.Str.{bytes_eq}

@@ -1,4 +1,4 @@
--- The lines of the first path's cut of Quil: what a line says, and the bytes that say it.
+-- The lines of the first cut of Quil: what a line says, and the bytes that say it.
 use Rattle.std.specs.Prelude.{◌≡◌, ◌≢◌, ℕ, ◌<◌, ◌≤◌, List, ◌++◌, length, All, codes}
 use Rattle.std.specs.Fmt.{decimal}
 use Rattle.qvm_step.specs.Program.{qubit_count, most_bits}

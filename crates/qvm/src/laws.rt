@@ -1,6 +1,6 @@
-//! Laws of the definitions: functions that do nothing, each with its statement as its contract.
+//! Laws of the definitions: functions that do nothing but call other laws, each with its statement as its contract.
 
-ghost use Rattle.std.specs.Prelude.{◌≡◌, ℕ, false, List, All};
+ghost use Rattle.std.specs.Prelude.{◌≡◌, ◌⊎◌, ℕ, false, List, All};
 ghost use Rattle.quil_tree.specs.declared.item.Item.{Item};
 ghost use Rattle.quil_tree.specs.Printed.{printed};
 ghost use Rattle.qvm_step.specs.Program.{Program};
@@ -9,6 +9,7 @@ ghost use Rattle.qvm.specs.Cut.{IsPlanOf, BreaksAt, is_pragma, without_pragmas, 
 ghost use Rattle.qvm.specs.RunText.{Reply, IsReplyTo};
 
 use quil_parse::one_tree;
+use quil_round_trip::tree_or_fault;
 
 /// The bytes of a line say one thing only.
 pub fn one_meaning()
@@ -30,10 +31,9 @@ pub fn none_where_breaks()
     ensures { (tree : List Item) (k : ℕ) (p : Program) → BreaksAt tree k → ¬ (IsPlanOf tree p) }
 {}
 
-/// No tree has neither a plan nor a line at which it breaks.
+/// Each tree has a plan, or breaks at a line.
 pub fn plan_or_break()
-    ensures { (tree : List Item)
-        → ¬ (((p : Program) → ¬ (IsPlanOf tree p)) × ((k : ℕ) → ¬ (BreaksAt tree k))) }
+    ensures { (tree : List Item) → ((p : Program) × IsPlanOf tree p) ⊎ ((k : ℕ) × BreaksAt tree k) }
 {}
 
 /// A tree with a plan, its pragmas left away, is printed as lines of the cut.
@@ -45,10 +45,13 @@ pub fn cut_text()
         → (ls : List Line) × All IsLine ls × (printed tree ≡ lines_text ls) }
 {}
 
-/// A text has at most one reply.
+/// Each text has a reply, and no other.
 pub fn one_reply()
-    ensures { (limit : ℕ) (text : List ℕ) (r s : Reply) → IsReplyTo limit text r → IsReplyTo limit text s → r ≡ s }
+    ensures some { (limit : ℕ) (text : List ℕ) → ((r : Reply) × IsReplyTo limit text r) }
+    ensures only { (limit : ℕ) (text : List ℕ) (r s : Reply) → IsReplyTo limit text r → IsReplyTo limit text s → r ≡ s }
 {
+    tree_or_fault();
+    plan_or_break();
     one_tree();
     one_plan();
     one_break();

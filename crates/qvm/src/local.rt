@@ -74,7 +74,7 @@ fn run<S: Source, K: Sink>(alloc: Global, source: &mut S, sink: &mut K) -> u8
 
 /// The program behind its name: the words after it, a source and a sink, and the status that it ends with.
 ///
-/// The one word `run` reads a Quil program from the source, runs it where its tree is in the cut of the first path, and writes its
+/// The one word `run` reads a Quil program from the source, runs it where its tree is in the first cut, and writes its
 /// memory. Everything else is a usage refusal, which reads nothing.
 pub fn local_main<S: Source, K: Sink>(
     alloc: Global,

@@ -1,4 +1,4 @@
-//! The plan of a tree, for the first path: what of Quil it runs is a cut of lines.
+//! The plan of a tree of the first cut: what of Quil is run is a cut of lines.
 //!
 //! Each item but a pragma is printed, and its line is read. The contract is by a relation between items and programs
 //! (`specs/Spelling`, `specs/Cut`), which shares nothing with the reader: on Ok the plan is the one plan of the tree, and
