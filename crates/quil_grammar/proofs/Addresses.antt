@@ -8,7 +8,8 @@ use Rattle.quil_grammar.specs.declared.class.Class.TheVariants as class
 use Rattle.quil_grammar.specs.declared.stop.Stop.{Stop}
 use Rattle.quil_grammar.specs.declared.stop.Stop.TheVariants as stop
 use Rattle.quil_grammar.specs.Token.{Token}
-use Rattle.quil_grammar.specs.Grammar.{quil, tables, accepts, index}
+use Rattle.quil_grammar.specs.Grammar.{quil, accepts, index}
+use Rattle.quil_grammar.specs.Tables.{tables}
 use Rattle.quil_grammar.specs.Grammar.Event.{Region, Index}
 use Rattle.quil_grammar.specs.Statements.{address}
 use Rattle.quil_grammar.specs.Frames.{is_next, StopsFor}

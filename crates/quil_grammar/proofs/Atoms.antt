@@ -12,13 +12,15 @@ use Rattle.quil_grammar.specs.declared.class.Class.TheVariants as class
 use Rattle.quil_grammar.specs.Sort.{is_sort, is_name}
 use Rattle.quil_grammar.specs.Token.{Token}
 use Rattle.quil_grammar.proofs.Sorts.{same_sort}
-use Rattle.quil_grammar.specs.Grammar.{quil, tables, accepts, index, whole_of, value_behind, Primary}
+use Rattle.quil_grammar.specs.Grammar.{quil, accepts, index, whole_of, value_behind, Primary}
+use Rattle.quil_grammar.specs.Tables.{tables}
 use Rattle.quil_grammar.specs.Grammar.Event.{Stands, Region, Index}
 use Rattle.quil_grammar.specs.Written.{events_of_atom}
 use Rattle.quil_grammar.specs.Frames.{is_next, StopsFor}
 use Rattle.quil_grammar.specs.declared.stop.Stop.{Stop}
 use Rattle.quil_grammar.specs.declared.stop.Stop.TheVariants as stop
 use Rattle.quil_tree.specs.declared.expr.Whole.{Whole}
+use Rattle.quil_grammar.proofs.Values.{fits, exceeds}
 
 pub either : (a b : Bool) → (a || b) ≡ true → (a ≡ true) ⊎ (b ≡ true)
 either true b e = inl refl
@@ -227,12 +229,6 @@ open_bracket_halts : (a b : Token) (us : List Token) → accepts class.IndexBegi
 unfolding quil tables
 open_bracket_halts a b [] e f small g = choice_first (rw e refl) (token_then_halts e refl (token_then_halts f small end_halts))
 open_bracket_halts a b (t ∷ us) e f small g = choice_first (rw e refl) (token_then_halts e refl (token_then_halts f small (token_halts g)))
-
-fits : (n : ℕ) → n < 2 ^ 64 → not (nat_lt n (2 ^ 64)) ≡ false
-fits n h = ap not (lt-ltb n (2 ^ 64) h)
-
-exceeds : (n : ℕ) → 2 ^ 64 ≤ n → not (nat_lt n (2 ^ 64)) ≡ true
-exceeds n h = ap not (le-ltb n (2 ^ 64) h)
 
 -- the same of the parts that the reader made
 pub index_read : (us vs ws xs : List Token) (a b c : Token) (digits : List ℕ) (value : ℕ) → us ≡ a ∷ vs → accepts class.IndexBegins a.sort ≡ true → vs ≡ b ∷ ws → accepts class.Index b.sort ≡ true → ws ≡ c ∷ xs → accepts class.IndexEnds c.sort ≡ true

@@ -1,9 +1,11 @@
 -- Reading on behind an operand.
 use Rattle.std.proofs.Common.{◌≡◌, Bool, true, false, List, [], ◌∷◌, ◌++◌, refl, sym, ◌∙◌, ap, subst, append_assoc}
+use Rattle.std.proofs.lemmas.List.{same_from_push}
 use Rattle.quil_shape.specs.Shape.{Shape}
 use Rattle.quil_shape.specs.Shape.Shape.{One, Emit, Seq, Rule}
 use Rattle.quil_shape.specs.Reads.{GoesOn, Halts}
 use Rattle.quil_shape.proofs.Reading.{goes_then, goes_next, goes_past, goes_rule, goes_first, goes_second, goes_seq, goes_more, goes_to_stop, stops_behind, stops_here, token_advances, token_halts, end_halts, seq_halts_first, many_ends, empty_advances, emit_advances}
+use Rattle.quil_shape.proofs.Expected.{not_empty}
 use Rattle.quil_tree.specs.declared.place.Place.{Place}
 use Rattle.quil_tree.specs.declared.expr.Sign.{Sign}
 use Rattle.quil_tree.specs.declared.expr.Operator.{Operator}
@@ -16,7 +18,8 @@ use Rattle.quil_grammar.specs.declared.class.Class.TheVariants as class
 use Rattle.quil_grammar.specs.declared.reader.Todo.{Todo}
 use Rattle.quil_grammar.specs.declared.reader.Todo.TheVariants as todo
 use Rattle.quil_grammar.specs.Token.{Token}
-use Rattle.quil_grammar.specs.Grammar.{quil, tables, accepts, operator_of, Name, Event, Sum, Unary, more_terms, more_factors, exponent}
+use Rattle.quil_grammar.specs.Grammar.{quil, accepts, operator_of, Name, Event, Sum, Unary, more_terms, more_factors, exponent}
+use Rattle.quil_grammar.specs.Tables.{tables}
 use Rattle.quil_grammar.specs.Grammar.Event.{Between, Joined, Opens, Closes}
 use Rattle.quil_grammar.specs.Grammar.Around.{Signed, Parenthesized, Argument}
 use Rattle.quil_grammar.specs.Written.{Written, Joins, Within, events, meaning, start}
@@ -60,29 +63,12 @@ record Opened (refs : Bool) (ts us : List Token) (k : List Todo) (next : Todo) (
   is_begin : begin ≡ start operand
   goes_on : GoesOn quil tables (Rule (Sum refs) ∷ []) ts [] (shape_of refs (frame_of next first) ∷ shapes refs frames) us (held_behind (held frames) (frame_of next first) ++ events operand)
 
--- lists with one more at the end
-last_two : {A : Type 0} (xs ys : List A) (x y : A) → xs ++ x ∷ [] ≡ ys ++ y ∷ [] → (xs ≡ ys) × (x ≡ y)
-last_two [] [] x y e = (refl, cc)
-last_two [] (b ∷ []) x y e = absurd (cc)
-last_two [] (b ∷ c ∷ ys) x y e = absurd (cc)
-last_two (a ∷ []) [] x y e = absurd (cc)
-last_two (a ∷ c ∷ xs) [] x y e = absurd (cc)
-last_two (a ∷ xs) (b ∷ ys) x y e =
-    let heads : a ≡ b = cc in
-    let tails : xs ++ x ∷ [] ≡ ys ++ y ∷ [] = cc in
-    let both = last_two xs ys x y tails in
-    (rw (heads, both.0) refl, both.1)
-
-no_last : {A : Type 0} (xs : List A) (x : A) → xs ++ x ∷ [] ≡ [] → ⊥
-no_last [] x e = absurd (cc)
-no_last (a ∷ xs) x e = absurd (cc)
-
 open_frames : (refs : Bool) (ts us : List Token) (k : List Todo) (next : Todo) (ss : List Step) (begin : Place) (fs : List Frame) (w : Written)
     → k ++ next ∷ [] ≡ todos fs → ss ≡ kept fs ++ postfix (meaning w) → begin ≡ start w → GoesOn quil tables (Rule (Sum refs) ∷ []) ts [] (shapes refs fs) us (held fs ++ events w)
     → Opened refs ts us k next ss begin
-open_frames refs ts us k next ss begin [] w e f g h = absurd (no_last k next e)
+open_frames refs ts us k next ss begin [] w e f g h = absurd (not_empty k next e)
 open_frames refs ts us k next ss begin (a ∷ fs) w e f g h =
-    let both = last_two k (todos fs) next (todo_of a) e in
+    let both = same_from_push k (todos fs) next (todo_of a) e in
     let same : a ≡ frame_of next (first_of w a) = frame_again w a ∙ ap (λ t. frame_of t (first_of w a)) (sym both.1) in
     record {
       frames = fs;

@@ -7,6 +7,7 @@ use Rattle.quil_shape.specs.Shape.Shape.{Rule}
 use Rattle.quil_shape.specs.Reads.{GoesOn}
 use Rattle.quil_shape.proofs.Stops.{leaves_within}
 use Rattle.quil_shape.proofs.Reading.{goes_then, goes_rule, goes_seq, goes_to_end}
+use Rattle.quil_shape.proofs.Expected.{not_empty}
 use Rattle.quil_tree.specs.declared.place.Place.{Place}
 use Rattle.quil_tree.specs.declared.expr.Step.{Step}
 use Rattle.quil_tree.specs.declared.statement.Formula.{Formula}
@@ -16,7 +17,8 @@ use Rattle.quil_grammar.specs.declared.reader.Todo.{Todo}
 use Rattle.quil_grammar.specs.declared.reader.Todo.TheVariants as todo
 use Rattle.quil_grammar.specs.declared.stop.Stop.{Stop}
 use Rattle.quil_grammar.specs.Token.{Token}
-use Rattle.quil_grammar.specs.Grammar.{quil, tables, Sum, Unary}
+use Rattle.quil_grammar.specs.Grammar.{quil, Sum, Unary}
+use Rattle.quil_grammar.specs.Tables.{tables}
 use Rattle.quil_grammar.specs.Written.{Written, events, meaning, start}
 use Rattle.quil_grammar.specs.Frames.{Frame, MoreTerms, MoreFactors, shapes, held, kept, todos, todo_of, Wants, Holds, IsRead, IsFormulaRead, StopsFor, GoesToStand}
 
@@ -28,14 +30,10 @@ begun refs ts = goes_then goes_rule (goes_then goes_seq (goes_then goes_rule goe
 pub begins : (refs : Bool) (ts us : List Token) (k : List Todo) (ss : List Step) → us ≡ ts → k ≡ todo.Terms ∷ todo.Factors ∷ [] → ss ≡ [] → Wants refs ts us k ss
 begins refs ts us k ss e f g = rw (e, f, g) (record { frames = MoreFactors ∷ MoreTerms ∷ []; is_to_do = refl; is_kept = refl; goes_on = begun refs ts })
 
-no_last : {A : Type 0} (xs : List A) (x : A) → [] ≡ xs ++ x ∷ [] → ⊥
-no_last [] x e = absurd (cc)
-no_last (a ∷ xs) x e = absurd (cc)
-
 end_frames : (refs : Bool) (ts us : List Token) (ss : List Step) (p : Place) (fs : List Frame) (w : Written)
     → [] ≡ todos fs → ss ≡ kept fs ++ postfix (meaning w) → p ≡ start w → GoesOn quil tables (Rule (Sum refs) ∷ []) ts [] (shapes refs fs) us (held fs ++ events w) → IsFormulaRead refs ts us (record { place = p; expr = ss })
 end_frames refs ts us ss p [] w e f h g = record { written = w; advances = goes_to_end g; is_meaning = rw (f, h) refl }
-end_frames refs ts us ss p (a ∷ fs) w e f h g = absurd (no_last (todos fs) (todo_of a) e)
+end_frames refs ts us ss p (a ∷ fs) w e f h g = absurd (not_empty (todos fs) (todo_of a) (sym e))
 
 -- where nothing is left to be read, the operand is the expression
 pub is_read : (refs same : Bool) (ts us : List Token) (k : List Todo) (ss : List Step) (p : Place) → Holds same ts us k ss p → k ≡ [] → same ≡ refs → IsFormulaRead refs ts us (record { place = p; expr = ss })

@@ -5,7 +5,8 @@ use Rattle.quil_shape.specs.Outcome.{Outcome, after}
 use Rattle.quil_shape.specs.Outcome.Outcome.{Made, Stuck, Large}
 use Rattle.quil_shape.specs.Reads.{Reads, starts, is_barred, first_passes}
 use Rattle.quil_grammar.specs.Token.{Token}
-use Rattle.quil_grammar.specs.Grammar.{quil, tables, accepts, Sum, Product, Unary, Power, Event, more_terms, more_factors, exponent, is_operator_next}
+use Rattle.quil_grammar.specs.Grammar.{quil, accepts, Sum, Product, Unary, Power, Event, more_terms, more_factors, exponent, is_operator_next}
+use Rattle.quil_grammar.specs.Tables.{tables}
 use Rattle.quil_grammar.specs.declared.class.Class.{Class}
 use Rattle.quil_grammar.specs.declared.class.Class.TheVariants as class
 use Rattle.quil_grammar.specs.declared.sort.Sort.{Sort}

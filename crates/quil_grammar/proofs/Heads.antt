@@ -7,7 +7,8 @@ use Rattle.quil_shape.specs.Outcome.{Outcome}
 use Rattle.quil_shape.specs.Outcome.Outcome.{Stuck}
 use Rattle.quil_shape.specs.Reads.{Reads, starts, is_barred}
 use Rattle.quil_grammar.specs.Token.{Token}
-use Rattle.quil_grammar.specs.Grammar.{quil, tables, accepts, Name, Sum, OperandSum, OperandPrimary, Primary, Event, body_of, cell, is_wide_whole_next, is_whole_number, is_wide, is_operator_next}
+use Rattle.quil_grammar.specs.Grammar.{quil, accepts, Name, Sum, OperandSum, OperandPrimary, Primary, Event, body_of, cell, is_wide_whole_next, is_whole_number, is_wide, is_operator_next}
+use Rattle.quil_grammar.specs.Tables.{tables}
 use Rattle.quil_grammar.specs.Literals.{is_plain_next, is_signed_next}
 use Rattle.quil_grammar.specs.declared.class.Class.{Class}
 use Rattle.quil_grammar.specs.declared.class.Class.TheVariants as class

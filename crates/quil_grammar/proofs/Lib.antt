@@ -1,4 +1,5 @@
 pub mod Sorts
+pub mod Decided
 pub mod Values
 pub mod Names
 pub mod Ends

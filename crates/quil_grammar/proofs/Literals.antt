@@ -2,7 +2,7 @@
 use Rattle.std.proofs.Common.{◌≡◌, ℕ, ◌<◌, ◌≤◌, ◌^◌, ◌⊎◌, inl, inr, Bool, true, false, not, ◌||◌, ◌&&◌, List, [], ◌∷◌, ◌++◌, Some, None, refl, sym, ◌∙◌, ap, subst, append_assoc, append-nil, lt-ltb, le-ltb}
 use Rattle.std.specs.Prelude.{nat_lt, slice_get}
 use Rattle.std.specs.List.{list_all}
-use Rattle.std.proofs.lemmas.Bool.{and_parts, or_left}
+use Rattle.std.proofs.lemmas.Bool.{and_parts, or_left, or_parts, not-true}
 use Rattle.quil_shape.specs.Shape.Shape.{Rule}
 use Rattle.quil_shape.specs.Condition.{is_clear, is_clear_rule, is_decided_by_one_token}
 use Rattle.quil_shape.specs.Verdict.{IsOnlyVerdict}
@@ -21,7 +21,8 @@ use Rattle.quil_tree.specs.declared.expr.Sign.{Sign}
 use Rattle.quil_tree.specs.declared.statement.Operand.{Operand}
 use Rattle.quil_tree.specs.declared.statement.Operand.TheVariants as operand
 use Rattle.quil_grammar.specs.Token.{Token}
-use Rattle.quil_grammar.specs.Grammar.{quil, tables, accepts, Event, Sum, Product, Unary, Power, Primary, OperandSum, OperandUnary, OperandPower, OperandPrimary, more_terms, more_factors, exponent, is_digit, whole_of, value_behind, sign_of, operator_of, function_of, is_operator_next, is_wide, is_wide_whole_next}
+use Rattle.quil_grammar.specs.Grammar.{quil, accepts, Event, Sum, Product, Unary, Power, Primary, OperandSum, OperandUnary, OperandPower, OperandPrimary, more_terms, more_factors, exponent, is_digit, whole_of, value_behind, sign_of, operator_of, function_of, is_operator_next, is_wide, is_wide_whole_next}
+use Rattle.quil_grammar.specs.Tables.{tables}
 use Rattle.quil_grammar.specs.Grammar.Event.{Stands, Between, Joined, Opens, Closes}
 use Rattle.quil_grammar.specs.Grammar.Around.{Signed, Parenthesized, Argument}
 use Rattle.quil_grammar.specs.Written.{Written, events, start, formula_of, operand_of}
@@ -37,10 +38,7 @@ use Rattle.quil_grammar.proofs.Followers.{no_operator_behind}
 use Rattle.quil_grammar.proofs.Verdicts.{decided}
 use Rattle.quil_grammar.proofs.Wholes.{IsWriting, sum_is, product_is, unary_is}
 use Rattle.quil_grammar.proofs.Writings.{same_written}
-
-neither : (a b : Bool) → (a || b) ≡ false → (a ≡ false) × (b ≡ false)
-neither true b e = absurd (cc)
-neither false b e = (refl, e)
+use Rattle.quil_grammar.proofs.Values.{fits, exceeds}
 
 -- the token is no operator
 record IsNone (t : Token) : Type 0 where
@@ -50,13 +48,9 @@ record IsNone (t : Token) : Type 0 where
 
 no_operator : (t : Token) (us : List Token) → is_operator_next (t ∷ us) ≡ false → IsNone t
 no_operator t us e =
-    let first = neither (accepts class.Additive t.sort) (accepts class.Multiplicative t.sort || accepts class.Caret t.sort) e in
-    let second = neither (accepts class.Multiplicative t.sort) (accepts class.Caret t.sort) first.1 in
+    let first = or_parts (accepts class.Additive t.sort) (accepts class.Multiplicative t.sort || accepts class.Caret t.sort) e in
+    let second = or_parts (accepts class.Multiplicative t.sort) (accepts class.Caret t.sort) first.1 in
     record { term = first.0; factor = second.0; caret = second.1 }
-
-not_true : (b : Bool) → not b ≡ true → b ≡ false
-not_true true e = absurd (cc)
-not_true false e = refl
 
 -- behind an operand with no operator behind it nothing more of the expression is read
 no_exponent : (us : List Token) → is_operator_next us ≡ false → Advances quil tables (exponent false) us us []
@@ -74,7 +68,7 @@ unfolding quil tables
 no_terms [] e = many_ends refl
 no_terms (t ∷ us) e = let c = (no_operator t us e).term in many_ends (rw c refl)
 
-unary_number : (t : Token) (us : List Token) → accepts class.Number t.sort ≡ true → is_operator_next us ≡ false → Advances quil tables (Rule (Unary false)) (t ∷ us) us (Stands t.place (atom.Number t.text) ∷ [])
+pub unary_number : (t : Token) (us : List Token) → accepts class.Number t.sort ≡ true → is_operator_next us ≡ false → Advances quil tables (Rule (Unary false)) (t ∷ us) us (Stands t.place (atom.Number t.text) ∷ [])
 unfolding quil tables
 unary_number t us a e = rule_reads (choice_second (or_left _ _ a) (rule_reads (seq_advances (rule_reads (choice_first a (token_advances a refl))) (no_exponent us e))))
 
@@ -110,7 +104,7 @@ plain_parts : (t : Token) (us : List Token) → is_plain_next (t ∷ us) ≡ tru
 plain_parts t us e =
     let both = and_parts _ _ e in
     let number = and_parts _ _ both.0 in
-    record { is_number = number.0; all_digits = number.1; no_operator = not_true _ both.1 }
+    record { is_number = number.0; all_digits = number.1; no_operator = not-true _ both.1 }
 
 wide_by : (t : Token) (us : List Token) → Plain t us → is_wide_whole_next (t ∷ us) ≡ is_wide t
 wide_by t us p = let a = p.is_number in let d = p.all_digits in let n = p.no_operator in by_width (is_wide t) (accepts class.Number t.sort) (is_operator_next us) (list_all is_digit t.text) a d n
@@ -118,12 +112,6 @@ wide_by t us p = let a = p.is_number in let d = p.all_digits in let n = p.no_ope
     by_width : (w a o : Bool) (d : Bool) → a ≡ true → d ≡ true → o ≡ false → ((a && d) && (w && not o)) ≡ w
     by_width true a o d e f g = rw (e, f, g) refl
     by_width false a o d e f g = rw (e, f) refl
-
-small : (n : ℕ) → n < 2 ^ 64 → not (nat_lt n (2 ^ 64)) ≡ false
-small n h = rw (lt-ltb _ _ h) refl
-
-large : (n : ℕ) → 2 ^ 64 ≤ n → not (nat_lt n (2 ^ 64)) ≡ true
-large n h = rw (le-ltb _ _ h) refl
 
 -- the exits of the reader
 pub plain_read : (ts us : List Token) (t : Token) (p : Place) (x : List ℕ) (o : Operand) → ts ≡ t ∷ us → is_plain_next ts ≡ true → p ≡ t.place → x ≡ t.text → o ≡ operand.Literal p None (whole_of x) → value_behind 0 x < 2 ^ 64 → IsOperandRead ts us o
@@ -133,7 +121,7 @@ plain_read ts us t p x o e f g h i j =
     rw (e, i, g, h)
     (record {
       written = Alone t.place (atom.Number t.text);
-      advances = number_operand t us parts.is_number parts.no_operator (wide_by t us parts ∙ small _ (subst (λ y. value_behind 0 y < 2 ^ 64) h j));
+      advances = number_operand t us parts.is_number parts.no_operator (wide_by t us parts ∙ fits _ (subst (λ y. value_behind 0 y < 2 ^ 64) h j));
       is_meaning = rw d refl;
     })
 
@@ -141,7 +129,7 @@ pub plain_stops : (ts us : List Token) (t : Token) (x : List ℕ) (s : Stop) →
 plain_stops ts us t x s e f h (inl i) = rw i tt
 plain_stops ts us t x s e f h (inr i) =
     let parts = plain_parts t us (subst (λ xs. is_plain_next xs ≡ true) e f) in
-    rw (i.0, e) (number_exceeds t us parts.is_number (wide_by t us parts ∙ large _ (subst (λ y. 2 ^ 64 ≤ value_behind 0 y) h i.1)))
+    rw (i.0, e) (number_exceeds t us parts.is_number (wide_by t us parts ∙ exceeds _ (subst (λ y. 2 ^ 64 ≤ value_behind 0 y) h i.1)))
 
 pub signed_read : (ts us : List Token) (s t : Token) (p : Place) (sign : Sign) (x : List ℕ) (o : Operand) → ts ≡ s ∷ t ∷ us → is_signed_next ts ≡ true → p ≡ s.place → sign ≡ sign_of s.sort → x ≡ t.text → o ≡ operand.Literal p (Some sign) (whole_of x) → value_behind 0 x < 2 ^ 64 → IsOperandRead ts us o
 signed_read ts us s t p sign x o e f g k h i j =
@@ -151,7 +139,7 @@ signed_read ts us s t p sign x o e f g k h i j =
     rw (e, i, g, k, h)
     (record {
       written = Within (Signed s.place (sign_of s.sort)) (Alone t.place (atom.Number t.text));
-      advances = signed_operand_read s t us both.0 parts.is_number parts.no_operator (wide_by t us parts ∙ small _ (subst (λ y. value_behind 0 y < 2 ^ 64) h j));
+      advances = signed_operand_read s t us both.0 parts.is_number parts.no_operator (wide_by t us parts ∙ fits _ (subst (λ y. value_behind 0 y < 2 ^ 64) h j));
       is_meaning = rw d refl;
     })
 
@@ -160,7 +148,7 @@ signed_stops ts us s t x w e f h (inl i) = rw i tt
 signed_stops ts us s t x w e f h (inr i) =
     let both = and_parts (accepts class.Sign s.sort) (is_plain_next (t ∷ us)) (subst (λ xs. is_signed_next xs ≡ true) e f) in
     let parts = plain_parts t us both.1 in
-    rw (i.0, e) (signed_exceeds s t us both.0 (wide_by t us parts ∙ large _ (subst (λ y. 2 ^ 64 ≤ value_behind 0 y) h i.1)))
+    rw (i.0, e) (signed_exceeds s t us both.0 (wide_by t us parts ∙ exceeds _ (subst (λ y. 2 ^ 64 ≤ value_behind 0 y) h i.1)))
 
 pub no_operand : (ts : List Token) → slice_get ts 0 ≡ None → Halts quil tables (Rule OperandSum) ts ts
 unfolding quil tables

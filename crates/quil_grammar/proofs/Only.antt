@@ -13,7 +13,8 @@ use Rattle.quil_tree.specs.declared.expr.Step.{Step}
 use Rattle.quil_tree.specs.Expression.{postfix}
 use Rattle.quil_grammar.specs.declared.fault.ReadFault.{ReadFault}
 use Rattle.quil_grammar.specs.Token.{Token, tokens_among, end_of}
-use Rattle.quil_grammar.specs.Grammar.{quil, tables, Sum, Event}
+use Rattle.quil_grammar.specs.Grammar.{quil, Sum, Event}
+use Rattle.quil_grammar.specs.Tables.{tables}
 use Rattle.quil_grammar.specs.Written.{events, meaning}
 use Rattle.quil_grammar.specs.Answer.{IsExpressionOf, IsRefusal, IsFault, fault_of}
 use Rattle.quil_grammar.specs.declared.fault.ReadFault.TheVariants as fault
@@ -25,7 +26,7 @@ use Rattle.quil_lex.proofs.Total.{each_text}
 use Rattle.quil_shape.specs.Verdict.{HasLargeAt, IsReading as IsWhole}
 use Rattle.quil_shape.specs.Verdict.Verdict.{Refused, TooLarge}
 use Rattle.quil_shape.specs.Outcome.{verdict_of}
-use Rattle.quil_grammar.specs.Answer.{most_bytes}
+use Rattle.quil_grammar.specs.declared.parse.TheConstants.{MOST_BYTES}
 use Rattle.quil_grammar.specs.Sort.{is_sort}
 use Rattle.quil_grammar.specs.declared.sort.Sort.TheVariants as sort
 
@@ -96,7 +97,7 @@ not_both text ss (fault.TextTooLong n) some x y = absurd (omega (arith, x.is_sho
 not_both text ss fault.OutOfMemory some x y = absurd (some refl)
 
 -- the expression of a verdict, or its fault
-answer : (text : List ℕ) (spans : List Span) (v : Verdict Event Token) → length text ≤ most_bytes → IsReading text spans → IsVerdict quil (Rule (Sum true)) (tokens_among [] spans) v
+answer : (text : List ℕ) (spans : List Span) (v : Verdict Event Token) → length text ≤ MOST_BYTES → IsReading text spans → IsVerdict quil (Rule (Sum true)) (tokens_among [] spans) v
     → ((ss : List Step) × IsExpressionOf text ss) ⊎ ((f : ReadFault) × (f ≢ fault.OutOfMemory) × IsFault text f)
 answer text spans (Read os) short r h =
     let w = sum_is h.whole in
@@ -116,7 +117,7 @@ short_or_long n m = elim (bool_cases (nat_lt n m)) [ inl t ↦ inr (grind (arith
 
 pub some_answer : (text : List ℕ) → ((ss : List Step) × IsExpressionOf text ss) ⊎ ((f : ReadFault) × (f ≢ fault.OutOfMemory) × IsFault text f)
 some_answer text =
-    elim (short_or_long most_bytes (length text)) [
+    elim (short_or_long MOST_BYTES (length text)) [
       | inl short ↦
           let reading = each_text text in
           let some = some_outcome quil tables (Rule (Sum true)) (decided true) (tokens_among [] reading.0) in

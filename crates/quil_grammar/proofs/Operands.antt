@@ -19,7 +19,8 @@ use Rattle.quil_grammar.specs.declared.reader.Todo.TheVariants as todo
 use Rattle.quil_grammar.specs.declared.stop.Stop.{Stop}
 use Rattle.quil_grammar.specs.declared.stop.Stop.TheVariants as stop
 use Rattle.quil_grammar.specs.Token.{Token}
-use Rattle.quil_grammar.specs.Grammar.{quil, tables, accepts, sign_of, function_of, Name, Event, Sum, Unary, Power, Primary, more_terms, more_factors, exponent, parenthesized, signed}
+use Rattle.quil_grammar.specs.Grammar.{quil, accepts, sign_of, function_of, Name, Event, Sum, Unary, Power, Primary, more_terms, more_factors, exponent, parenthesized, signed}
+use Rattle.quil_grammar.specs.Tables.{tables}
 use Rattle.quil_grammar.specs.Grammar.Event.{Opens, Closes}
 use Rattle.quil_grammar.specs.Grammar.Around.{Signed, Parenthesized, Argument}
 use Rattle.quil_grammar.specs.Written.{Alone, events_of_atom}
@@ -28,14 +29,11 @@ use Rattle.quil_grammar.specs.declared.reader.Reader.{Reader}
 use Rattle.std.specs.Prelude.{Result, Err}
 use Rattle.std.specs.Result.{IsErrAnd}
 use Rattle.std.proofs.lemmas.Result.{err_from_is_err_and}
+use Rattle.std.proofs.lemmas.Bool.{or_right}
 use Rattle.quil_grammar.proofs.Sorts.{same_sort}
 use Rattle.quil_grammar.proofs.Atoms.{token, function_cases}
 
 -- the second side of a choice decides
-pub or_second : (a b : Bool) → b ≡ true → (a || b) ≡ true
-or_second true b e = refl
-or_second false b e = e
-
 -- a sign is read, and an operand is still to be read
 sign_goes : (refs : Bool) (t : Token) (us : List Token) (os : List Event) (k : List (Shape Class Event Name)) → accepts class.Sign t.sort ≡ true
     → GoesOn quil tables (Rule (Unary refs) ∷ k) (t ∷ us) os (Rule (Unary refs) ∷ Emit Closes ∷ k) us (os ++ Opens (Signed t.place (sign_of t.sort)) ∷ [])
@@ -46,7 +44,7 @@ sign_goes refs t us os k a = goes_then goes_rule (goes_then (goes_first (rw a re
 to_primary : (refs : Bool) (us : List Token) (os : List Event) (k : List (Shape Class Event Name)) → is_next class.Sign us ≡ false → GoesOn quil tables (Rule (Unary refs) ∷ k) us os (Rule (Primary refs) ∷ exponent refs ∷ k) us os
 unfolding quil tables
 to_primary refs [] os k e = goes_then goes_rule (goes_then (goes_second refl) (goes_then goes_rule goes_seq))
-to_primary refs (t ∷ us) os k e = goes_then goes_rule (goes_then (goes_second (or_second (starts quil tables (Rule (Power refs)) (t ∷ us)) (is_barred quil tables (signed refs) (t ∷ us)) (rw e refl))) (goes_then goes_rule goes_seq))
+to_primary refs (t ∷ us) os k e = goes_then goes_rule (goes_then (goes_second (or_right (starts quil tables (Rule (Power refs)) (t ∷ us)) (is_barred quil tables (signed refs) (t ∷ us)) (rw e refl))) (goes_then goes_rule goes_seq))
 
 -- a sum in parentheses begins with an operand
 begins_sum : (refs : Bool) (us : List Token) (os : List Event) (k : List (Shape Class Event Name))

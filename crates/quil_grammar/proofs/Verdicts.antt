@@ -20,10 +20,12 @@ use Rattle.quil_grammar.specs.Sort.{is_sort}
 use Rattle.quil_grammar.specs.declared.stop.Stop.{Stop}
 use Rattle.quil_grammar.specs.declared.stop.Stop.TheVariants as stop
 use Rattle.quil_grammar.specs.Token.{Token, tokens_among, end_of}
-use Rattle.quil_grammar.specs.Grammar.{quil, tables, Sum, Event}
+use Rattle.quil_grammar.specs.Grammar.{quil, Sum, Event}
+use Rattle.quil_grammar.specs.Tables.{tables}
 use Rattle.quil_grammar.specs.Written.{events, meaning}
 use Rattle.quil_grammar.specs.Frames.{IsRead, StopsFor}
-use Rattle.quil_grammar.specs.Answer.{IsExpressionOf, IsRefusal, IsFault, Gives, fault_of, bad_or_unexpected, most_bytes}
+use Rattle.quil_grammar.specs.Answer.{IsExpressionOf, IsRefusal, IsFault, Gives, fault_of, bad_or_unexpected}
+use Rattle.quil_grammar.specs.declared.parse.TheConstants.{MOST_BYTES}
 use Rattle.quil_grammar.specs.Told.{IsFound, IsTold, Tells}
 use Rattle.quil_grammar.proofs.Writings.{same_written}
 
@@ -67,7 +69,7 @@ bad_not_long : (b : Bool) (p : Place) (n : ℕ) → bad_or_unexpected b p ≡ fa
 bad_not_long true p n e = absurd (cc)
 bad_not_long false p n e = absurd (cc)
 
-not_too_long : (p : Place) (v : Verdict Event Token) (n : ℕ) → fault_of p v ≡ Some (fault.TextTooLong n) → ⊥
+pub not_too_long : (p : Place) (v : Verdict Event Token) (n : ℕ) → fault_of p v ≡ Some (fault.TextTooLong n) → ⊥
 not_too_long p (Read os) n e = absurd (cc)
 not_too_long p (Refused []) n e = absurd (cc)
 not_too_long p (Refused (t ∷ ts)) n e = bad_not_long (is_sort t.sort sort.Bad) t.place n (cc)
@@ -166,7 +168,7 @@ refused_as text (Err (fault.Unexpected l c)) f h x = inl (ap (λ y. Err y) (same
 refused_as text (Err (fault.LeftOut n w)) f h x = absurd h
 refused_as text (Err (fault.TextTooLong n)) f h x = absurd h
 
-pub only_fault : (text : List ℕ) (r : Result (List Step) ReadFault) (f : ReadFault) → Tells text r → length text ≤ most_bytes → f ≢ fault.OutOfMemory → IsFault text f → Gives r (Err f)
+pub only_fault : (text : List ℕ) (r : Result (List Step) ReadFault) (f : ReadFault) → Tells text r → length text ≤ MOST_BYTES → f ≢ fault.OutOfMemory → IsFault text f → Gives r (Err f)
 only_fault text r fault.OutOfMemory h small some x = absurd (some refl)
 only_fault text r (fault.NumberTooWide l c) h small some x = refused_as text r (fault.NumberTooWide l c) h x.1
 only_fault text r (fault.BadToken l c) h small some x = refused_as text r (fault.BadToken l c) h x.1
@@ -175,7 +177,7 @@ only_fault text r (fault.LeftOut n w) h small some x = absurd x
 only_fault text r (fault.TextTooLong n) h small some x = absurd (omega (arith, x.0))
 
 -- a text that is too long has no other fault
-pub long_fault : (text : List ℕ) (f : ReadFault) → most_bytes < length text → f ≢ fault.OutOfMemory → IsFault text f → f ≡ fault.TextTooLong (length text)
+pub long_fault : (text : List ℕ) (f : ReadFault) → MOST_BYTES < length text → f ≢ fault.OutOfMemory → IsFault text f → f ≡ fault.TextTooLong (length text)
 long_fault text fault.OutOfMemory long some x = absurd (some refl)
 long_fault text (fault.NumberTooWide l c) long some x = absurd (omega (arith, x.0))
 long_fault text (fault.BadToken l c) long some x = absurd (omega (arith, x.0))

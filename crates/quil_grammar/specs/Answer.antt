@@ -10,18 +10,15 @@ use Rattle.quil_tree.specs.Expression.{postfix}
 use Rattle.quil_grammar.specs.declared.sort.Sort.TheVariants as sort
 use Rattle.quil_grammar.specs.declared.fault.ReadFault.{ReadFault}
 use Rattle.quil_grammar.specs.declared.fault.ReadFault.TheVariants as fault
+use Rattle.quil_grammar.specs.declared.parse.TheConstants.{MOST_BYTES}
 use Rattle.quil_grammar.specs.Sort.{is_sort}
 use Rattle.quil_grammar.specs.Token.{Token, tokens_among, end_of}
 use Rattle.quil_grammar.specs.Grammar.{quil, Sum, Event}
 use Rattle.quil_grammar.specs.Written.{Written, events, meaning}
 
--- a text of more bytes is too long
-abbrev pub most_bytes : ℕ
-most_bytes = 1048576
-
 -- these are the steps of the expression that the text is
 pub record IsExpressionOf (text : List ℕ) (steps : List Step) : Type 0 where
-  pub is_short : length text ≤ most_bytes
+  pub is_short : length text ≤ MOST_BYTES
   pub spans : List Span
   pub is_reading : IsReading text spans
   pub written : Written
@@ -48,12 +45,12 @@ pub record IsRefusal (text : List ℕ) (f : ReadFault) : Type 0 where
   pub is_fault : fault_of (end_of spans) verdict ≡ Some f
 
 abbrev pub IsFault : List ℕ → ReadFault → Type 0
-IsFault text (fault.TextTooLong n) = (most_bytes < length text) × (n ≡ length text)
+IsFault text (fault.TextTooLong n) = (MOST_BYTES < length text) × (n ≡ length text)
 IsFault text fault.OutOfMemory = Unit {0}
 IsFault text (fault.LeftOut line word) = ⊥
-IsFault text (fault.NumberTooWide line column) = (length text ≤ most_bytes) × IsRefusal text (fault.NumberTooWide line column)
-IsFault text (fault.BadToken line column) = (length text ≤ most_bytes) × IsRefusal text (fault.BadToken line column)
-IsFault text (fault.Unexpected line column) = (length text ≤ most_bytes) × IsRefusal text (fault.Unexpected line column)
+IsFault text (fault.NumberTooWide line column) = (length text ≤ MOST_BYTES) × IsRefusal text (fault.NumberTooWide line column)
+IsFault text (fault.BadToken line column) = (length text ≤ MOST_BYTES) × IsRefusal text (fault.BadToken line column)
+IsFault text (fault.Unexpected line column) = (length text ≤ MOST_BYTES) × IsRefusal text (fault.Unexpected line column)
 
 -- the answer is this, or memory ran out
 abbrev pub Gives : {A : Type 0} → Result A ReadFault → Result A ReadFault → Type 0

@@ -11,7 +11,8 @@ use Rattle.quil_tree.specs.declared.statement.Formula.{Formula}
 use Rattle.quil_tree.specs.declared.statement.Operand.{Operand as AnOperand}
 use Rattle.quil_tree.specs.Expression.{postfix}
 use Rattle.quil_grammar.specs.Token.{Token}
-use Rattle.quil_grammar.specs.Grammar.{quil, tables, accepts, Name, Sum, OperandSum, Unary, Event, Around, more_terms, more_factors, exponent}
+use Rattle.quil_grammar.specs.Grammar.{quil, accepts, Name, Sum, OperandSum, Unary, Event, Around, more_terms, more_factors, exponent}
+use Rattle.quil_grammar.specs.Tables.{tables}
 use Rattle.quil_grammar.specs.Grammar.Around.{Signed, Parenthesized, Argument}
 use Rattle.quil_grammar.specs.Grammar.Event.{Between, Joined, Opens, Closes}
 use Rattle.quil_grammar.specs.Written.{Written, events, meaning, start, formula_of, operand_of}

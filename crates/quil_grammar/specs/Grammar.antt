@@ -1,11 +1,9 @@
--- The places for a token in expressions and lines, the grammar of expressions, and the tables by which one token decides each
--- choice in it. `Statements.antt` has the forms of lines.
+-- The places for a token in expressions and lines, and the grammar of expressions. `Statements.antt` has the forms of lines.
 -- Loosest first: `+` and `-`, `*` and `/`, a sign, `^`, and then what stands alone or in parentheses.
 use Rattle.std.specs.Prelude.{if◌then◌else◌, ◌≡◌, ℕ, ◌+◌, ◌-◌, ◌*◌, ◌^◌, Bool, true, false, not, ◌&&◌, ◌||◌, nat_lt, List, [], ◌∷◌, Some, slice_get, refl}
 use Rattle.std.specs.List.{list_all}
 use Rattle.quil_shape.specs.Shape.{Shape, Grammar}
 use Rattle.quil_shape.specs.Shape.Shape.{One, Emit, Empty, Seq, Or, Many, Rule}
-use Rattle.quil_shape.specs.Condition.{Tables}
 use Rattle.quil_tree.specs.declared.place.Place.{Place}
 use Rattle.quil_tree.specs.declared.expr.Whole.{Whole}
 use Rattle.quil_tree.specs.declared.expr.Atom.{Atom}
@@ -21,7 +19,7 @@ use Rattle.quil_tree.specs.declared.statement.Qubit.{Qubit}
 use Rattle.quil_tree.specs.declared.statement.Qubit.TheVariants as qubit
 use Rattle.quil_grammar.specs.declared.sort.Sort.{Sort}
 use Rattle.quil_grammar.specs.declared.sort.Sort.TheVariants as sort
-use Rattle.quil_grammar.specs.Sort.{sorts, number_of, is_sort, is_name, is_whole, sort_is_listed}
+use Rattle.quil_grammar.specs.Sort.{is_sort, is_name, is_whole}
 use Rattle.quil_grammar.specs.Token.{Token}
 use Rattle.quil_grammar.specs.declared.class.Class.{Class}
 use Rattle.quil_grammar.specs.declared.class.Class.TheVariants as class
@@ -297,91 +295,3 @@ body_of OperandPrimary = Or (One class.OperandNumber) (Or (One class.Imaginary) 
 
 unfoldable pub quil : Grammar Class Event Name Sort Token
 quil = record { kind = λ t. t.sort; accepts = accepts; value = value_of; is_large = is_too_large; body = body_of }
-
--- all rules
-abbrev pub names : List Name
-names = Primary false ∷ Power false ∷ Unary false ∷ Product false ∷ Sum false ∷ Primary true ∷ Power true ∷ Unary true ∷ Product true ∷ Sum true
-    ∷ OperandPrimary ∷ OperandPower ∷ OperandUnary ∷ OperandProduct ∷ OperandSum ∷ []
-
-abbrev pub name_number : Name → ℕ
-name_number (Primary refs) = if refs then 5 else 0
-name_number (Power refs) = if refs then 6 else 1
-name_number (Unary refs) = if refs then 7 else 2
-name_number (Product refs) = if refs then 8 else 3
-name_number (Sum refs) = if refs then 9 else 4
-name_number OperandPrimary = 10
-name_number OperandPower = 11
-name_number OperandUnary = 12
-name_number OperandProduct = 13
-name_number OperandSum = 14
-
-pub name_is_listed : (r : Name) → slice_get names (name_number r) ≡ Some r
-name_is_listed (Primary true) = refl
-name_is_listed (Primary false) = refl
-name_is_listed (Power true) = refl
-name_is_listed (Power false) = refl
-name_is_listed (Unary true) = refl
-name_is_listed (Unary false) = refl
-name_is_listed (Product true) = refl
-name_is_listed (Product false) = refl
-name_is_listed (Sum true) = refl
-name_is_listed (Sum false) = refl
-name_is_listed OperandPrimary = refl
-name_is_listed OperandPower = refl
-name_is_listed OperandUnary = refl
-name_is_listed OperandProduct = refl
-name_is_listed OperandSum = refl
-
--- a rule begins with rules of less rank
-abbrev pub rank_of : Name → ℕ
-rank_of (Primary refs) = 0
-rank_of (Power refs) = 1
-rank_of (Unary refs) = 2
-rank_of (Product refs) = 3
-rank_of (Sum refs) = 4
-rank_of OperandPrimary = 0
-rank_of OperandPower = 1
-rank_of OperandUnary = 2
-rank_of OperandProduct = 3
-rank_of OperandSum = 4
-
--- the sorts that may open a primary
-abbrev pub opens_primary : Bool → Sort → Bool
-opens_primary refs s = accepts class.Number s || (accepts class.Imaginary s || (accepts class.Pi s || (accepts class.I s || (accepts class.Parameter s
-    || (accepts (class.Region refs) s || (accepts class.Function s || accepts class.Parenthesis s))))))
-
--- which sorts may open a rule; this, and what may follow it, need only cover the truth, and the condition checks that they do
-abbrev pub opens_rule : Name → Sort → Bool
-opens_rule (Primary refs) s = opens_primary refs s
-opens_rule (Power refs) s = opens_primary refs s
-opens_rule (Unary refs) s = opens_primary refs s || accepts class.Sign s
-opens_rule (Product refs) s = opens_primary refs s || accepts class.Sign s
-opens_rule (Sum refs) s = opens_primary refs s || accepts class.Sign s
-opens_rule OperandPrimary s = opens_primary false s
-opens_rule OperandPower s = opens_primary false s
-opens_rule OperandUnary s = opens_primary false s || accepts class.Sign s
-opens_rule OperandProduct s = opens_primary false s || accepts class.Sign s
-opens_rule OperandSum s = opens_primary false s || accepts class.Sign s
-
-abbrev pub follows_rule : Name → Sort → Bool
-follows_rule (Sum refs) s = accepts class.ParenthesisEnds s || accepts class.Comma s
-follows_rule (Product refs) s = accepts class.ParenthesisEnds s || (accepts class.Comma s || (accepts class.Additive s))
-follows_rule (Unary refs) s = accepts class.ParenthesisEnds s || (accepts class.Comma s || ((accepts class.Additive s || accepts class.Multiplicative s)))
-follows_rule (Power refs) s = accepts class.ParenthesisEnds s || (accepts class.Comma s || ((accepts class.Additive s || accepts class.Multiplicative s)))
-follows_rule (Primary refs) s = accepts class.ParenthesisEnds s || (accepts class.Comma s || ((accepts class.Additive s || (accepts class.Multiplicative s || accepts class.Caret s))))
-follows_rule OperandSum s = false
-follows_rule OperandProduct s = accepts class.Additive s
-follows_rule OperandUnary s = accepts class.Additive s || accepts class.Multiplicative s
-follows_rule OperandPower s = accepts class.Additive s || accepts class.Multiplicative s
-follows_rule OperandPrimary s = accepts class.Additive s || (accepts class.Multiplicative s || accepts class.Caret s)
-
-unfoldable pub tables : Tables Name Sort
-tables =
-    record {
-      kinds = record { items = sorts; place = number_of; is_listed = sort_is_listed };
-      rules = record { items = names; place = name_number; is_listed = name_is_listed };
-      opens = opens_rule;
-      skippable = λ r. false;
-      follow = follows_rule;
-      rank = rank_of;
-    }

@@ -1,6 +1,7 @@
 pub mod Sort
 pub mod Token
 pub mod Grammar
+pub mod Tables
 pub mod Statements
 pub mod Written
 pub mod Parts

@@ -2,7 +2,7 @@
 
 ghost use Rattle.std.specs.Prelude.{◌≡◌};
 ghost use Rattle.quil_grammar.specs.Grammar.{accepts};
-ghost use Rattle.quil_grammar.specs.Sort.{is_name, is_sort, is_whole, number_of};
+ghost use Rattle.quil_grammar.specs.Sort.{is_name, is_sort, is_whole};
 
 use crate::sort::Sort;
 
@@ -108,18 +108,11 @@ pub enum Class {
 }
 
 impl Sort {
-    // Its number among all sorts.
-    fn number(self) -> u8
-        ensures { result ≡ number_of self }
-    {
-        self as u8
-    }
-
     /// The two are the same.
     pub fn is(self, other: Sort) -> bool
         ensures { result ≡ is_sort self other }
     {
-        self.number() == other.number()
+        self == other
     }
 }
 

@@ -4,7 +4,9 @@ ghost use Rattle.std.specs.Prelude.{◌≡◌, ◌≢◌, ◌⊎◌, ℕ, List, 
 ghost use Rattle.quil_shape.specs.Condition.{is_decided_by_one_token};
 ghost use Rattle.quil_shape.specs.Shape.Shape.{Rule};
 ghost use Rattle.quil_tree.specs.declared.expr.Step.{Step};
-ghost use Rattle.quil_grammar.specs.Grammar.{quil, tables, Sum};
+ghost use Rattle.quil_grammar.specs.Sort.{is_sort};
+ghost use Rattle.quil_grammar.specs.Grammar.{quil, Sum};
+ghost use Rattle.quil_grammar.specs.Tables.{tables};
 ghost use Rattle.quil_grammar.specs.Statements.{top_level, statement, matrix_row, permutation_row, nowhere, nothing};
 ghost use Rattle.quil_grammar.specs.Written.{Written, events};
 ghost use Rattle.quil_grammar.specs.Parts.{Part, parts_events};
@@ -12,14 +14,32 @@ ghost use Rattle.quil_grammar.specs.Answer.{IsExpressionOf, IsFault};
 ghost use Rattle.quil_grammar.specs.declared.fault.ReadFault as fault;
 ghost use Rattle.quil_grammar.specs.declared.fault.ReadFault.TheVariants.{OutOfMemory};
 
+use crate::sort::Sort;
+
+/// The test of two sorts says whether they are the same.
+pub fn sorts_are_told_apart(a: Sort, b: Sort)
+    ensures same { is_sort a b ≡ true → a ≡ b }
+    ensures told { a ≡ b → is_sort a b ≡ true }
+{}
+
 /// One token decides each choice in the grammar of expressions, so no tokens are read in two ways.
-#[tactic(auto, unfolding(crate::specs::Grammar::quil, crate::specs::Grammar::tables))]
+#[tactic(auto, unfolding(crate::specs::Grammar::quil, crate::specs::Tables::tables))]
 pub fn one_token_decides()
     ensures { IsTrue (is_decided_by_one_token quil tables (Rule (Sum true))) }
 {}
 
 /// One token decides each choice in the statements of Quil, in its definitions and in their rows.
-#[tactic(auto, unfolding(crate::specs::Grammar::quil, crate::specs::Grammar::tables))]
+#[tactic(
+    auto,
+    using(
+        crate::proofs::Decided::decided_top,
+        crate::proofs::Decided::decided_statement,
+        crate::proofs::Decided::decided_row,
+        crate::proofs::Decided::decided_numbers,
+        crate::proofs::Decided::decided_nowhere,
+        crate::proofs::Decided::decided_nothing
+    )
+)]
 pub fn one_token_decides_statements()
     ensures top_level { IsTrue (is_decided_by_one_token quil tables top_level) }
     ensures statement { IsTrue (is_decided_by_one_token quil tables statement) }

@@ -21,9 +21,9 @@ pub use class::Class;
 pub use fault::ReadFault;
 pub use laws::{
     expression_or_fault, one_expression, one_list_of_parts, one_token_decides,
-    one_token_decides_statements, one_writing,
+    one_token_decides_statements, one_writing, sorts_are_told_apart,
 };
-pub use parse::parse_expr;
+pub use parse::{MOST_BYTES, parse_expr, refusal};
 pub use reader::{Reader, expression};
 pub use sort::Sort;
 pub use stop::Stop;

@@ -3,7 +3,8 @@
 ghost use Rattle.std.specs.Prelude.{◌≡◌, ◌≢◌, ℕ, ◌<◌, ◌≤◌, List, length, IfOk, IfErr, Ok, Err, Some};
 ghost use Rattle.quil_shape.specs.Verdict.Verdict.{Refused, TooLarge};
 ghost use Rattle.quil_tree.specs.declared.expr.Step.{Step};
-ghost use Rattle.quil_grammar.specs.Answer.{IsExpressionOf, IsFault, Gives, fault_of, most_bytes};
+ghost use Rattle.quil_grammar.specs.Answer.{IsExpressionOf, IsFault, Gives, fault_of};
+ghost use Rattle.quil_grammar.specs.declared.parse.TheConstants.{MOST_BYTES};
 ghost use Rattle.quil_grammar.specs.Told.{Tells};
 ghost use Rattle.quil_grammar.specs.declared.fault.ReadFault as fault;
 
@@ -17,11 +18,11 @@ use quil_lex::tokens_to_bad_byte;
 use quil_tree::{Expr, Place};
 use std::alloc::Global;
 
-/// A text has at most so many bytes.
-const MOST_BYTES: usize = 1_048_576;
+/// A text has at most so many bytes; one of more is refused as TextTooLong.
+pub const MOST_BYTES: usize = 1_048_576;
 
-// The fault where no front goes on with the first of these tokens, or where none is left.
-fn refusal(rest: &[Token<'_>], end: Place) -> ReadFault
+/// The fault where no front goes on with the first of these tokens, or where none is left and they end at this place.
+pub fn refusal(rest: &[Token<'_>], end: Place) -> ReadFault
     ensures { fault_of end (Refused rest.now) ≡ Some result }
 {
     let Some(token) = rest.first() else {
@@ -49,7 +50,7 @@ fn too_wide(rest: &[Token<'_>], end: Place) -> ReadFault
 
 // The expression of a text that isn't too long.
 fn read(alloc: Global, text: &[u8]) -> Result<Expr, ReadFault>
-    requires { length text.now ≤ most_bytes }
+    requires { length text.now ≤ MOST_BYTES }
     ensures { Tells text.now result }
 {
     let lexemes = tokens_to_bad_byte(alloc, text)?;
@@ -85,7 +86,7 @@ pub fn parse_expr(alloc: Global, text: &[u8]) -> Result<Expr, ReadFault>
     // A text is refused with its fault, and with no other. One that is too long takes no memory.
     ensures refused { IfErr result (IsFault text.now) }
     ensures only_fault { (f : fault.ReadFault) → f ≢ ReadFault.OutOfMemory → IsFault text.now f → Gives result (Err f) }
-    ensures too_long { most_bytes < length text.now → result ≡ Err (ReadFault.TextTooLong (length text.now)) }
+    ensures too_long { MOST_BYTES < length text.now → result ≡ Err (ReadFault.TextTooLong (length text.now)) }
 {
     if text.len() > MOST_BYTES {
         return Err(ReadFault::TextTooLong {

@@ -4,7 +4,8 @@ ghost use Rattle.std.specs.Prelude.{◌≡◌, ◌<◌, ◌≤◌, ◌+◌, ◌*
 ghost use Rattle.quil_shape.specs.Shape.Shape.{Rule};
 ghost use Rattle.quil_shape.specs.Reads.{Advances};
 ghost use Rattle.quil_grammar.specs.Token.{Token};
-ghost use Rattle.quil_grammar.specs.Grammar.{quil, tables, accepts, sign_of, operator_of, function_of, Sum, Primary, index};
+ghost use Rattle.quil_grammar.specs.Grammar.{quil, accepts, sign_of, operator_of, function_of, Sum, Primary, index};
+ghost use Rattle.quil_grammar.specs.Tables.{tables};
 ghost use Rattle.quil_grammar.specs.Grammar.Event.{Index};
 ghost use Rattle.quil_grammar.specs.Written.{events_of_atom, cell_events};
 ghost use Rattle.quil_grammar.specs.Statements.{address};

@@ -9,9 +9,9 @@ use Rattle.quil_lex.specs.declared.token.Kind.TheVariants.{Name, Whole, Decimal,
 use Rattle.quil_lex.specs.declared.token.Kind.TheVariants as kinds
 use Rattle.quil_lex.specs.Token.{is_name_start, is_word, is_name_tail, is_name, is_digits, is_exponent_mark, is_string_tail, is_after, IsDecimal, IsImaginary, IsToken, begins_word, begins_more, is_closed, IsFirstToken}
 use Rattle.quil_lex.specs.Scan.{name_tail_len, name_len, string_tail_len, digits_len, tail_len, begins_unit, number_of, number_from, token_of}
-use Rattle.quil_lex.proofs.Fronts.{bool_cases, both, string_exact}
+use Rattle.quil_lex.proofs.Fronts.{bool_cases, both, string_exact, string_some}
 use Rattle.quil_lex.proofs.Numbers.{begins, digits_exact, fraction_none, exponent_none, tail_no_digit, tail_exact, Stops}
-use Rattle.quil_lex.proofs.FirstToken.{numeral_of, number_token, start_no_digit, behind_some, is_byte, mark_token, unit_stops, unit_no_digit, name_some, string_some, some_length, first_some}
+use Rattle.quil_lex.proofs.FirstToken.{numeral_of, number_token, start_no_digit, behind_some, is_byte, mark_token, unit_stops, unit_no_digit, name_some, some_length, first_some}
 
 record Apart (r : List ℕ) : Type 0 where
   no_word : begins is_word r ≡ false

@@ -11,7 +11,7 @@ use Rattle.quil_lex.specs.declared.token.Mark.{Mark}
 use Rattle.quil_lex.specs.declared.token.Mark.TheVariants as mark
 use Rattle.quil_lex.specs.Token.{is_name_start, is_name_tail, is_name, is_digits, is_fraction, is_exponent, is_string_tail, is_after, IsOptional, IsDecimal, IsImaginary, byte_of, IsToken, begins_word, IsTokenBefore, IsFirstToken, NoToken}
 use Rattle.quil_lex.specs.Scan.{name_len, string_tail_len, digits_len, tail_len, begins_unit, number_of, number_from, behind, mark_of, token_of_mark, token_of}
-use Rattle.quil_lex.proofs.Fronts.{Front, bool_cases, both, and_true, chosen, name_front, name_bound, string_front, string_exact}
+use Rattle.quil_lex.proofs.Fronts.{Front, bool_cases, both, and_true, chosen, name_front, name_bound, string_front, string_some, string_exact}
 use Rattle.quil_lex.proofs.Numbers.{begins, digits_bound, digits_exact, some_digits, drop_front, tail_front, tail_no_digit, tail_bound, tail_exact, Stops}
 
 -- a token of this kind and length stands at the front
@@ -238,10 +238,6 @@ label_found (b ∷ t) r h =
     let some = name_some t p.1 in
     let f : token_of (64 ∷ (t ++ r)) ≡ Some (Label, name_len (t ++ r) + 1) = behind_some Label (name_len (t ++ r)) (omega (arith, bound, some)) in
     record { kind = Label; len = name_len (t ++ r) + 1; found = ap (λ x. token_of (x ∷ (t ++ r))) (is_byte b 64 p.0) ∙ f; bound = omega (arith, bound); same = λ _. refl }
-
-pub string_some : (t : List ℕ) → is_string_tail t ≡ true → 0 < length t
-string_some [] h = absurd (cc)
-string_some (b ∷ t) h = omega arith
 
 string_found : (t r : List ℕ) → is_after 34 is_string_tail t ≡ true → Agrees Str t (t ++ r)
 string_found [] r h = absurd (cc)

@@ -102,7 +102,7 @@ empty_nil : (t : List ℕ) → is_empty t ≡ true → t ≡ []
 empty_nil [] h = refl
 empty_nil (b ∷ t) h = absurd (cc)
 
-string_some : (t : List ℕ) → is_string_tail t ≡ true → 0 < length t
+pub string_some : (t : List ℕ) → is_string_tail t ≡ true → 0 < length t
 string_some [] h = absurd (cc)
 string_some (b ∷ t) h = omega arith
 

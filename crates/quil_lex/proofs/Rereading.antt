@@ -4,6 +4,7 @@ use Rattle.std.specs.Prelude.{◌==◌}
 use Rattle.std.specs.List.{AllByRecursion}
 use Rattle.std.proofs.lemmas.List.{length-append}
 use Rattle.std.proofs.lemmas.List.Folds.{list_any-append}
+use Rattle.std.proofs.lemmas.Bool.{or_parts}
 use Rattle.quil_lex.specs.declared.token.Kind.{Kind}
 use Rattle.quil_lex.specs.declared.segment.End.TheVariants as end
 use Rattle.quil_lex.specs.Token.{IsFirstToken, begins_more, is_closed}
@@ -102,22 +103,18 @@ in_line l w =
       | inr i ↦ rw i (in_line_words l.words w.apart)
     ]
 
-either_false : (a b : Bool) → (a || b) ≡ false → (a ≡ false) × (b ≡ false)
-either_false false b h = (refl, h)
-either_false true b h = absurd (cc)
-
 and_false : (a b : Bool) → b ≡ false → (a && b) ≡ false
 and_false true b h = h
 and_false false b h = refl
 
 in_line_tail : (b : ℕ) (bs : List ℕ) → IsInLine (b ∷ bs) → IsInLine bs
-in_line_tail b bs h = record { no_feed = (either_false (b == 10) (has_feed bs) h.no_feed).1; no_return = ends_tail b bs h.no_return }
+in_line_tail b bs h = record { no_feed = (or_parts (b == 10) (has_feed bs) h.no_feed).1; no_return = ends_tail b bs h.no_return }
 
 no_end : (b : ℕ) (bs rest : List ℕ) → IsInLine (b ∷ bs) → end_len (b ∷ (bs ++ 10 ∷ rest)) ≡ 0
-no_end b [] rest h = rw ((either_false (b == 10) false h.no_feed).0, h.no_return) refl
+no_end b [] rest h = rw ((or_parts (b == 10) false h.no_feed).0, h.no_return) refl
 no_end b (c ∷ bs) rest h =
-    let p = either_false (b == 10) (has_feed (c ∷ bs)) h.no_feed in
-    let q = either_false (c == 10) (has_feed bs) p.1 in
+    let p = or_parts (b == 10) (has_feed (c ∷ bs)) h.no_feed in
+    let q = or_parts (c == 10) (has_feed bs) p.1 in
     rw (p.0, and_false (b == 13) (c == 10) q.0) refl
 
 first_is : (line rest : List ℕ) → IsInLine line → first_line (line ++ 10 ∷ rest) ≡ line

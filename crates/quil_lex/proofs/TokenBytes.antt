@@ -12,8 +12,7 @@ use Rattle.quil_lex.specs.declared.token.Mark.{Mark}
 use Rattle.quil_lex.specs.declared.token.Mark.TheVariants as mark
 use Rattle.quil_lex.specs.Token.{is_name_start, is_word, is_name_tail, is_name, is_digits, is_fraction, is_sign, is_signed_digits, is_exponent_mark, is_exponent, IsOptional, IsDecimal, is_empty, is_string_tail, is_after, byte_of, IsToken}
 use Rattle.quil_lex.specs.Written.{has_feed}
-use Rattle.quil_lex.proofs.Fronts.{bool_cases, both, and_true}
-use Rattle.quil_lex.proofs.FirstToken.{string_some}
+use Rattle.quil_lex.proofs.Fronts.{bool_cases, both, and_true, string_some}
 
 -- Plain bytes.
 

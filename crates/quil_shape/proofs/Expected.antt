@@ -1,5 +1,6 @@
 -- A front goes on with a token exactly where a class is expected that accepts it.
 use Rattle.std.proofs.Common.{◌≡◌, ◌⊎◌, inl, inr, true, List, [], ◌∷◌, ◌++◌, refl, sym, ◌∙◌, ap, subst, append_assoc, append-nil}
+use Rattle.std.proofs.lemmas.List.{same_from_push}
 use Rattle.quil_shape.specs.Shape.{Shape, Grammar}
 use Rattle.quil_shape.specs.Shape.Shape.{Seq, Many}
 use Rattle.quil_shape.specs.Whole.{Whole}
@@ -14,19 +15,8 @@ pub record HasPlace {C O R K T : Type 0} (g : Grammar C O R K T) (s : Shape C O 
   pub splits : ts ≡ before ++ us
   pub expects : Expects g s before c
 
--- one more at the end of a list
-ends_alike : {A : Type 0} (xs ys : List A) (x y : A) → xs ++ x ∷ [] ≡ ys ++ y ∷ [] → (xs ≡ ys) × (x ≡ y)
-ends_alike [] [] x y e = (refl, cc)
-ends_alike [] (b ∷ []) x y e = absurd (cc)
-ends_alike [] (b ∷ c ∷ ys) x y e = absurd (cc)
-ends_alike (a ∷ []) [] x y e = absurd (cc)
-ends_alike (a ∷ c ∷ xs) [] x y e = absurd (cc)
-ends_alike (a ∷ xs) (b ∷ ys) x y e = let rest : xs ++ x ∷ [] ≡ ys ++ y ∷ [] = cc in let same = ends_alike xs ys x y rest in let head : a ≡ b = cc in (ap₂' head same.0, same.1)
-  where
-    ap₂' : a ≡ b → xs ≡ ys → a ∷ xs ≡ b ∷ ys
-    ap₂' p q = cc
-
-not_empty : {A : Type 0} (xs : List A) (x : A) → xs ++ x ∷ [] ≡ [] → ⊥
+-- a list with one item more
+pub not_empty : {A : Type 0} (xs : List A) (x : A) → xs ++ x ∷ [] ≡ [] → ⊥
 not_empty [] x e = cc
 not_empty (y ∷ xs) x e = cc
 
@@ -68,7 +58,7 @@ module _ {C O R K T : Type 0} (g : Grammar C O R K T) where
       taken : (p : Taken g s ((before ++ t ∷ []) ++ []) []) → (c : C) × Expects g s before c × (g.accepts c (g.kind t) ≡ true)
       taken p =
           let place = faces_expects p.faces in
-          let same = ends_alike before place.before t p.token (sym (append-nil (before ++ t ∷ [])) ∙ place.splits) in
+          let same = same_from_push before place.before t p.token (sym (append-nil (before ++ t ∷ [])) ∙ place.splits) in
           (p.place, subst (λ xs. Expects g s xs p.place) (sym same.0) place.expects, subst (λ x. g.accepts p.place (g.kind x) ≡ true) (sym same.1) p.is_accepted)
 
       by_cases : ((before ++ t ∷ []) ++ [] ≡ []) ⊎ Taken g s ((before ++ t ∷ []) ++ []) [] → (c : C) × Expects g s before c × (g.accepts c (g.kind t) ≡ true)
