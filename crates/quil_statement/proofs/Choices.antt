@@ -15,7 +15,8 @@ use Rattle.quil_grammar.specs.declared.class.Class.TheVariants as class
 use Rattle.quil_grammar.specs.declared.stop.Stop.{Stop}
 use Rattle.quil_grammar.specs.declared.stop.Stop.TheVariants as stop
 use Rattle.quil_grammar.specs.Token.{Token}
-use Rattle.quil_grammar.specs.Grammar.{quil, tables, accepts, Name, Event}
+use Rattle.quil_grammar.specs.Grammar.{quil, accepts, Name, Event}
+use Rattle.quil_grammar.specs.Tables.{tables}
 use Rattle.quil_grammar.specs.Frames.{is_next, StopsFor}
 use Rattle.quil_grammar.specs.Parts.{Part, parts_events}
 use Rattle.quil_grammar.specs.Parts.Part.{Made}
@@ -24,7 +25,7 @@ use Rattle.quil_grammar.specs.Statements.{address, operand, maybe, behind_name, 
 use Rattle.quil_statement.specs.Meaning.{line_of, item_of, plain}
 use Rattle.quil_statement.specs.Says.{SaysLine, SaysItem}
 use Rattle.quil_statement.specs.Loops.{begins_classical}
-use Rattle.quil_statement.proofs.Tokens.{one_starts}
+use Rattle.quil_statement.proofs.Tokens.{one_starts, one_barred, word_starts, word_barred}
 
 -- whatever reading the first shape comes to, reading the second does
 record Into (s t : Shape Class Event Name) (ts : List Token) : Type 0 where
@@ -46,21 +47,6 @@ there s t a us e i = record { goes = λ out x. choice_not_first e (i.goes out x)
 
 same : (s : Shape Class Event Name) (us : List Token) → Into s s us
 same s us = record { goes = λ out x. x }
-
-word_starts : (c : Class) (a : Shape Class Event Name) (us : List Token) → is_next c us ≡ true → starts quil tables (Seq (One c) a) us ≡ true
-unfolding quil tables
-word_starts c a [] e = absurd (cc)
-word_starts c a (t ∷ us) e = rw e refl
-
-word_barred : (c : Class) (a : Shape Class Event Name) (us : List Token) → is_next c us ≡ false → is_barred quil tables (Seq (One c) a) us ≡ true
-unfolding quil tables
-word_barred c a [] e = refl
-word_barred c a (t ∷ us) e = rw e refl
-
-one_barred : (c : Class) (us : List Token) → is_next c us ≡ false → is_barred quil tables (One c) us ≡ true
-unfolding quil tables
-one_barred c [] e = refl
-one_barred c (t ∷ us) e = rw e refl
 
 bare_into : (us : List Token) → is_next class.Bare us ≡ true → Into (One class.Bare) control us
 bare_into us e = here (One class.Bare) (Or pragma (Or label jump_if)) us (one_starts class.Bare us e)
@@ -321,7 +307,7 @@ pub statement_stops_top : (us vs : List Token) (x : Stop) → is_next class.Decl
 statement_stops_top us vs x n0 n1 n2 h = stops_into statement top_level us vs x (statement_top us n0 n1 n2) h
 
 -- a line that means a statement is no declaration and no header
-plain_item : (ps : List Part) (l : Line) → line_of ps ≡ Some l → item_of ps ≡ Some (item.Plain l)
+pub plain_item : (ps : List Part) (l : Line) → line_of ps ≡ Some l → item_of ps ≡ Some (item.Plain l)
 plain_item [] l e = absurd (cc)
 plain_item (Made (Says p class.Declare s) ∷ ps) l e = absurd (cc)
 plain_item (Made (Says p class.DefGate s) ∷ ps) l e = absurd (cc)

@@ -16,7 +16,8 @@ use Rattle.quil_grammar.specs.declared.sort.Sort.{Sort}
 use Rattle.quil_grammar.specs.declared.class.Class.TheVariants as class
 use Rattle.quil_grammar.specs.declared.stop.Stop.{Stop}
 use Rattle.quil_grammar.specs.Token.{Token}
-use Rattle.quil_grammar.specs.Grammar.{quil, tables, Event, whole_of}
+use Rattle.quil_grammar.specs.Grammar.{quil, Event, whole_of}
+use Rattle.quil_grammar.specs.Tables.{tables}
 use Rattle.quil_grammar.specs.Grammar.Piece.{Says, Names, Counts}
 use Rattle.quil_grammar.specs.Frames.{is_next, StopsFor}
 use Rattle.quil_grammar.specs.Statements.{maybe, length, some_length, offset, offsets, sharing, declaration}

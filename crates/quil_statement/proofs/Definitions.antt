@@ -2,6 +2,7 @@
 use Rattle.std.proofs.Common.{◌≡◌, ◌||◌, Bool, true, false, if◌then◌else◌, List, [], ◌∷◌, ◌++◌, refl, sym, ◌∙◌, ap, subst, append-nil}
 use Rattle.std.specs.Prelude.{filter_map}
 use Rattle.std.proofs.lemmas.List.Elements.{filter_map-append}
+use Rattle.std.proofs.lemmas.Bool.{or_right}
 use Rattle.quil_shape.specs.Shape.{Shape}
 use Rattle.quil_shape.specs.Shape.Shape.{One, Seq, Or, Many}
 use Rattle.quil_shape.specs.Outcome.{Outcome}
@@ -18,7 +19,8 @@ use Rattle.quil_grammar.specs.declared.class.Class.TheVariants as class
 use Rattle.quil_grammar.specs.declared.stop.Stop.{Stop}
 use Rattle.quil_grammar.specs.declared.stop.Stop.TheVariants as stop
 use Rattle.quil_grammar.specs.Token.{Token}
-use Rattle.quil_grammar.specs.Grammar.{quil, tables, Name, Event}
+use Rattle.quil_grammar.specs.Grammar.{quil, Name, Event}
+use Rattle.quil_grammar.specs.Tables.{tables}
 use Rattle.quil_grammar.specs.Grammar.Piece.{Says, Names}
 use Rattle.quil_grammar.specs.Frames.{is_next, StopsFor}
 use Rattle.quil_grammar.specs.Statements.{maybe, formals, matrix_form, any_form, gate_shape, gate_header, circuit_header}
@@ -27,8 +29,8 @@ use Rattle.quil_grammar.specs.Parts.Part.{Made}
 use Rattle.quil_statement.specs.Meaning.{gate_form, taken_of, name_of}
 use Rattle.quil_statement.specs.Says.{Reads, SaysItem}
 use Rattle.quil_statement.specs.Loops.{listed, taking, naming, IsForm, IsShape}
-use Rattle.quil_statement.proofs.Tokens.{one_starts}
-use Rattle.quil_statement.proofs.Sequences.{reads_both, stops_first, stops_second, stops_fourth, stops_in_first, stops_in_second}
+use Rattle.quil_statement.proofs.Tokens.{one_starts, one_barred, word_starts, word_barred}
+use Rattle.quil_statement.proofs.Sequences.{reads_both, stops_first, stops_second, stops_fourth, stops_in_first, stops_in_second, not_second}
 
 -- parameters
 pub formals_read : (us vs ws xs : List Token) (ns : List Called) → Reads (One class.ListBegins) us vs [] → Reads (listed (One class.TakenParameter)) vs ws (taking ns) → Reads (One class.ListEnds) ws xs [] → Reads formals us xs (taking ns)
@@ -52,30 +54,10 @@ pub no_formals : (us vs : List Token) (ns : List Called) → is_next class.ListB
 no_formals us vs ns e f g = rw (f, g) (choice_not_first (formals_barred us e) empty_advances)
 
 -- forms
-as_starts : (a : Shape Class Event Name) (us : List Token) → is_next class.As us ≡ true → starts quil tables (Seq (One class.As) a) us ≡ true
-unfolding quil tables
-as_starts a [] e = absurd (cc)
-as_starts a (t ∷ us) e = rw e refl
-
-as_barred : (a : Shape Class Event Name) (us : List Token) → is_next class.As us ≡ false → is_barred quil tables (Seq (One class.As) a) us ≡ true
-unfolding quil tables
-as_barred a [] e = refl
-as_barred a (t ∷ us) e = rw e refl
-
-one_barred : (c : Class) (us : List Token) → is_next c us ≡ false → is_barred quil tables (One c) us ≡ true
-unfolding quil tables
-one_barred c [] e = refl
-one_barred c (t ∷ us) e = rw e refl
-
 left_out_exceeds : (us : List Token) → is_next class.LeftOutForm us ≡ true → Exceeds quil tables (One class.LeftOutForm) us us
 unfolding quil tables
 left_out_exceeds [] e = absurd (cc)
 left_out_exceeds (t ∷ us) e = token_exceeds e refl
-
-not_second : (a b : Shape Class Event Name) (us vs : List Token) (e : Stop) → is_barred quil tables b us ≡ true → StopsFor e a us vs → StopsFor e (Or a b) us vs
-not_second a b us vs stop.OutOfMemory h r = tt
-not_second a b us vs stop.Unexpected h r = choice_not_second h r
-not_second a b us vs stop.TooLarge h r = choice_not_second h r
 
 pub matrix_read : (us vs ws : List Token) → Reads (One class.As) us vs [] → is_next class.LeftOutForm vs ≡ false → Reads (One class.Matrix) vs ws [] → Reads matrix_form us ws []
 matrix_read us vs ws r n q = reads_both (One class.As) (Or (One class.Matrix) (One class.LeftOutForm)) us vs ws [] [] r (choice_not_second (one_barred class.LeftOutForm vs n) q)
@@ -87,13 +69,13 @@ pub matrix_stops : (us vs ws : List Token) (e : Stop) → Reads (One class.As) u
 matrix_stops us vs ws e r n q = stops_second (One class.As) (Or (One class.Matrix) (One class.LeftOutForm)) us vs ws [] e r (not_second (One class.Matrix) (One class.LeftOutForm) vs ws e (one_barred class.LeftOutForm vs n) q)
 
 pub matrix_starts : (us : List Token) → is_next class.As us ≡ true → starts quil tables matrix_form us ≡ true
-matrix_starts us e = as_starts (Or (One class.Matrix) (One class.LeftOutForm)) us e
+matrix_starts us e = word_starts class.As (Or (One class.Matrix) (One class.LeftOutForm)) us e
 
 pub matrix_stands : (us vs : List Token) → is_next class.As us ≡ true → Reads matrix_form us vs [] → Reads (maybe matrix_form) us vs []
 matrix_stands us vs e r = choice_first (matrix_starts us e) r
 
 pub no_matrix : (us vs : List Token) → is_next class.As us ≡ false → vs ≡ us → Reads (maybe matrix_form) us vs []
-no_matrix us vs e f = rw f (choice_not_first (as_barred (Or (One class.Matrix) (One class.LeftOutForm)) us e) empty_advances)
+no_matrix us vs e f = rw f (choice_not_first (word_barred class.As (Or (One class.Matrix) (One class.LeftOutForm)) us e) empty_advances)
 
 abbrev later_form : Shape Class Event Name
 later_form = Or (One class.Permutation) (One class.LeftOutForm)
@@ -106,14 +88,10 @@ unfolding quil tables
 starts_first a b [] e = absurd (cc)
 starts_first a b (t ∷ us) e = rw e refl
 
-or_second : (a b : Bool) → b ≡ true → (a || b) ≡ true
-or_second true b e = refl
-or_second false b e = e
-
 starts_second : (a b : Shape Class Event Name) (us : List Token) → starts quil tables b us ≡ true → starts quil tables (Or a b) us ≡ true
 unfolding quil tables
 starts_second a b [] e = absurd (cc)
-starts_second a b (t ∷ us) e = or_second _ _ e
+starts_second a b (t ∷ us) e = or_right _ _ e
 
 both_barred : (c d : Class) (us : List Token) → is_next c us ≡ false → is_next d us ≡ false → is_barred quil tables (Or (One c) (One d)) us ≡ true
 unfolding quil tables
@@ -150,13 +128,13 @@ pub form_matrix_stops : (us vs ws : List Token) (e : Stop) → Reads (One class.
 form_matrix_stops us vs ws e r n m q = stops_second (One class.As) form_word us vs ws [] e r (not_second (One class.Matrix) later_form vs ws e (both_barred class.Permutation class.LeftOutForm vs m n) q)
 
 pub form_starts : (us : List Token) → is_next class.As us ≡ true → starts quil tables any_form us ≡ true
-form_starts us e = as_starts form_word us e
+form_starts us e = word_starts class.As form_word us e
 
 pub form_stands : (us vs : List Token) (b : Bool) → is_next class.As us ≡ true → IsForm any_form us vs b → IsForm (maybe any_form) us vs b
 form_stands us vs b e h = record { parts = h.parts; reads = choice_first (form_starts us e) h.reads; form = h.form; takes_none = h.takes_none }
 
 pub no_form : (us vs : List Token) → is_next class.As us ≡ false → vs ≡ us → IsForm (maybe any_form) us vs false
-no_form us vs e f = rw f (record { parts = []; reads = choice_not_first (as_barred form_word us e) empty_advances; form = refl; takes_none = refl })
+no_form us vs e f = rw f (record { parts = []; reads = choice_not_first (word_barred class.As form_word us e) empty_advances; form = refl; takes_none = refl })
 
 -- parameters and forms
 taken : (ns : List Called) → filter_map taken_of (taking ns) ≡ ns

@@ -20,7 +20,8 @@ use Rattle.quil_grammar.specs.declared.class.Class.TheVariants as class
 use Rattle.quil_grammar.specs.declared.stop.Stop.{Stop}
 use Rattle.quil_grammar.specs.declared.stop.Stop.TheVariants as stop
 use Rattle.quil_grammar.specs.Token.{Token}
-use Rattle.quil_grammar.specs.Grammar.{quil, tables, Name, Event}
+use Rattle.quil_grammar.specs.Grammar.{quil, Name, Event}
+use Rattle.quil_grammar.specs.Tables.{tables}
 use Rattle.quil_grammar.specs.Grammar.Piece.{Says, Names}
 use Rattle.quil_grammar.specs.Written.{Written, formula_of}
 use Rattle.quil_grammar.specs.Frames.{is_next, StopsFor}
@@ -30,7 +31,8 @@ use Rattle.quil_grammar.specs.Parts.Part.{Made}
 use Rattle.quil_statement.specs.Meaning.{modification_of, modifier_of, name_of, value_of, qubit_of, gate_of}
 use Rattle.quil_statement.specs.Says.{Reads, SaysLine}
 use Rattle.quil_statement.specs.Loops.{Leads, AreFormulas, AreModifiers, IsCalled, IsNamed, Forks, ModifiedSoFar, forked, Word, word_part, modifier_at, saying, values, acting}
-use Rattle.quil_statement.proofs.Sequences.{reads_both, stops_first, stops_second, stops_in_second}
+use Rattle.quil_statement.proofs.Tokens.{word_starts, word_barred}
+use Rattle.quil_statement.proofs.Sequences.{reads_both, stops_first, stops_second, stops_in_second, not_first, not_second}
 use Rattle.quil_statement.proofs.Repeats.{leads_on, leads_to_end, leads_to_stop, first_leads}
 
 -- parameters
@@ -128,7 +130,7 @@ said_qubits [] ps = refl
 said_qubits (w ∷ ws) ps = said_qubits ws ps
 
 -- the gate that the parts mean
-gate_means : (ws : List Word) (n : Called) (vs : List Written) (qs : List Qubit)
+pub gate_means : (ws : List Word) (n : Called) (vs : List Written) (qs : List Qubit)
     → gate_of (saying ws ++ Made (Names n) ∷ (values vs ++ acting qs)) ≡ Some (statement.Gate (record { modifiers = map modifier_at ws; name = n; parameters = map formula_of vs; qubits = qs }))
 gate_means ws n vs qs =
     let ms : filter_map modifier_of (saying ws ++ Made (Names n) ∷ (values vs ++ acting qs)) ≡ map modifier_at ws = said_modifiers ws (Made (Names n) ∷ (values vs ++ acting qs)) ∙ ap (λ xs. map modifier_at ws ++ xs) (no_modifiers vs qs) ∙ append-nil (map modifier_at ws) in
@@ -162,16 +164,6 @@ one_word us vs c a b p s e r = let h = first_leads (One c) a us vs (Made (Says p
 other_word : (us vs : List Token) (c : Class) (a b : Shape Class Event Name) (p : Place) (s : Sort) → starts quil tables (Seq (One c) b) us ≡ true → Reads (One c) us vs (Made (Says p c s) ∷ []) → Leads (Or a (Seq (One c) b)) us b vs (Made (Says p c s) ∷ [])
 other_word us vs c a b p s e r = let h = first_leads (One c) b us vs (Made (Says p c s) ∷ []) r in record { goes_on = λ out x. choice_second e (h.goes_on out x) }
 
-word_starts : (c : Class) (a : Shape Class Event Name) (us : List Token) → is_next c us ≡ true → starts quil tables (Seq (One c) a) us ≡ true
-unfolding quil tables
-word_starts c a [] e = absurd (cc)
-word_starts c a (t ∷ us) e = rw e refl
-
-word_barred : (c : Class) (a : Shape Class Event Name) (us : List Token) → is_next c us ≡ false → is_barred quil tables (Seq (One c) a) us ≡ true
-unfolding quil tables
-word_barred c a [] e = refl
-word_barred c a (t ∷ us) e = rw e refl
-
 pub forked_first : (us vs : List Token) (p : Place) (s : Sort) (ms : List Modifier) → is_next class.Forked us ≡ true → Reads (One class.Forked) us vs (Made (Says p class.Forked s) ∷ []) → ms ≡ record { place = p; kind = modification_of s } ∷ [] → ModifiedSoFar 3 us vs p ms
 forked_first us vs p s ms n r e =
     record {
@@ -197,16 +189,6 @@ modifier_first us vs p s ms n r e =
 
 pub forked_first_stops : (us vs : List Token) (e : Stop) → is_next class.Forked us ≡ true → StopsFor e (One class.Forked) us vs → StopsFor e modified_gate us vs
 forked_first_stops us vs e n r = stops_in_second (Seq (One class.Modifier) (modified 4)) (Seq (One class.Forked) (modified 3)) us vs e (word_starts class.Forked (modified 3) us n) (stops_first (One class.Forked) (modified 3) us vs e r)
-
-not_second : (a b : Shape Class Event Name) (us vs : List Token) (e : Stop) → is_barred quil tables b us ≡ true → StopsFor e a us vs → StopsFor e (Or a b) us vs
-not_second a b us vs stop.OutOfMemory h r = tt
-not_second a b us vs stop.Unexpected h r = choice_not_second h r
-not_second a b us vs stop.TooLarge h r = choice_not_second h r
-
-not_first : (a b : Shape Class Event Name) (us vs : List Token) (e : Stop) → is_barred quil tables a us ≡ true → StopsFor e b us vs → StopsFor e (Or a b) us vs
-not_first a b us vs stop.OutOfMemory h r = tt
-not_first a b us vs stop.Unexpected h r = choice_not_first h r
-not_first a b us vs stop.TooLarge h r = choice_not_first h r
 
 pub modifier_first_stops : (us vs : List Token) (e : Stop) → is_next class.Forked us ≡ false → StopsFor e (One class.Modifier) us vs → StopsFor e modified_gate us vs
 modifier_first_stops us vs e n r = not_second (Seq (One class.Modifier) (modified 4)) (Seq (One class.Forked) (modified 3)) us vs e (word_barred class.Forked (modified 3) us n) (stops_first (One class.Modifier) (modified 4) us vs e r)

@@ -11,7 +11,8 @@ use Rattle.quil_grammar.specs.declared.class.Class.TheVariants as class
 use Rattle.quil_grammar.specs.declared.stop.Stop.{Stop}
 use Rattle.quil_grammar.specs.declared.stop.Stop.TheVariants as stop
 use Rattle.quil_grammar.specs.Token.{Token}
-use Rattle.quil_grammar.specs.Grammar.{quil, tables, OperandSum}
+use Rattle.quil_grammar.specs.Grammar.{quil, OperandSum}
+use Rattle.quil_grammar.specs.Tables.{tables}
 use Rattle.quil_grammar.specs.Written.{events}
 use Rattle.quil_grammar.specs.Written.Written.{Alone}
 use Rattle.quil_grammar.specs.Frames.{is_next, StopsFor, IsOperandRead}

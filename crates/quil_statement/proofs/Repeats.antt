@@ -17,7 +17,8 @@ use Rattle.quil_grammar.specs.declared.class.Class.TheVariants as class
 use Rattle.quil_grammar.specs.declared.stop.Stop.{Stop}
 use Rattle.quil_grammar.specs.declared.stop.Stop.TheVariants as stop
 use Rattle.quil_grammar.specs.Token.{Token}
-use Rattle.quil_grammar.specs.Grammar.{quil, tables, Name, Event, Sum}
+use Rattle.quil_grammar.specs.Grammar.{quil, Name, Event, Sum}
+use Rattle.quil_grammar.specs.Tables.{tables}
 use Rattle.quil_grammar.specs.Grammar.Piece.{Says, Names, Takes, Acts, Keeps}
 use Rattle.quil_grammar.specs.Written.{Written, formula_of, events}
 use Rattle.quil_grammar.specs.Frames.{is_next, StopsFor, IsFormulaRead}

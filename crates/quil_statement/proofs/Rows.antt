@@ -10,14 +10,11 @@ use Rattle.quil_grammar.specs.Statements.{formulas}
 use Rattle.quil_statement.specs.Meaning.{value_of, kept_of}
 use Rattle.quil_statement.specs.Says.{Reads, SaysRow, SaysNumbers}
 use Rattle.quil_statement.specs.Loops.{listed, values, keeping, AreFormulas}
+use Rattle.quil_statement.proofs.Said.{kept}
 
 valued : (ws : List Written) → filter_map value_of (values ws) ≡ map formula_of ws
 valued [] = refl
 valued (w ∷ ws) = ap (λ fs. formula_of w ∷ fs) (valued ws)
-
-kept : (xs : List (List ℕ)) → filter_map kept_of (keeping xs) ≡ xs
-kept [] = refl
-kept (x ∷ xs) = ap (λ ys. x ∷ ys) (kept xs)
 
 pub row_said : (us vs : List Token) (fs : List Formula) → AreFormulas (formulas false) us vs fs → SaysRow us vs fs
 row_said us vs fs h = record { parts = values h.written; reads = h.reads; means = valued h.written ∙ sym h.are_meant }

@@ -60,7 +60,7 @@ module _ (us vs ws xs ys : List Token) (p : Place) (s : Sort) where
       → SaysLine compare us ys (record { place = p; statement = compare_of s a b x })
   compare_said a b x r t u h = record { parts = Made (Says p class.CompareWord s) ∷ cell a ∷ cell b ∷ Value h.written ∷ []; reads = reads_both _ _ us vs ys (Made (Says p class.CompareWord s) ∷ []) (cell a ∷ cell b ∷ Value h.written ∷ []) r (reads_both _ _ vs ws ys (cell a ∷ []) (cell b ∷ Value h.written ∷ []) t (reads_both _ _ ws xs ys (cell b ∷ []) (Value h.written ∷ []) u h.reads)); means = rw h.is_meaning refl }
 
-kept : (xs : List (List ℕ)) → filter_map kept_of (keeping xs) ≡ xs
+pub kept : (xs : List (List ℕ)) → filter_map kept_of (keeping xs) ≡ xs
 kept [] = refl
 kept (x ∷ xs) = ap (λ ys. x ∷ ys) (kept xs)
 

@@ -2,13 +2,14 @@
 use Rattle.std.proofs.Common.{◌≡◌, true, List, [], ◌∷◌, ◌++◌, refl, sym, ◌∙◌, ap, subst, append_assoc}
 use Rattle.quil_shape.specs.Shape.{Shape}
 use Rattle.quil_shape.specs.Shape.Shape.{Seq, Or}
-use Rattle.quil_shape.specs.Reads.{Advances, starts}
-use Rattle.quil_shape.proofs.Reading.{seq_advances, seq_halts_first, seq_halts_second, seq_exceeds_first, seq_exceeds_second, choice_first, choice_second}
+use Rattle.quil_shape.specs.Reads.{Advances, starts, is_barred}
+use Rattle.quil_shape.proofs.Reading.{seq_advances, seq_halts_first, seq_halts_second, seq_exceeds_first, seq_exceeds_second, choice_first, choice_second, choice_not_first, choice_not_second}
 use Rattle.quil_grammar.specs.declared.class.Class.{Class}
 use Rattle.quil_grammar.specs.declared.stop.Stop.{Stop}
 use Rattle.quil_grammar.specs.declared.stop.Stop.TheVariants as stop
 use Rattle.quil_grammar.specs.Token.{Token}
-use Rattle.quil_grammar.specs.Grammar.{quil, tables, Name, Event}
+use Rattle.quil_grammar.specs.Grammar.{quil, Name, Event}
+use Rattle.quil_grammar.specs.Tables.{tables}
 use Rattle.quil_grammar.specs.Frames.{StopsFor}
 use Rattle.quil_grammar.specs.Parts.{Part, part_events, parts_events}
 use Rattle.quil_statement.specs.Says.{Reads}
@@ -54,3 +55,13 @@ pub stops_in_second : (a b : Shape Class Event Name) (us vs : List Token) (e : S
 stops_in_second a b us vs stop.OutOfMemory e r = tt
 stops_in_second a b us vs stop.Unexpected e r = choice_second e r
 stops_in_second a b us vs stop.TooLarge e r = choice_second e r
+
+pub not_first : (a b : Shape Class Event Name) (us vs : List Token) (e : Stop) → is_barred quil tables a us ≡ true → StopsFor e b us vs → StopsFor e (Or a b) us vs
+not_first a b us vs stop.OutOfMemory h r = tt
+not_first a b us vs stop.Unexpected h r = choice_not_first h r
+not_first a b us vs stop.TooLarge h r = choice_not_first h r
+
+pub not_second : (a b : Shape Class Event Name) (us vs : List Token) (e : Stop) → is_barred quil tables b us ≡ true → StopsFor e a us vs → StopsFor e (Or a b) us vs
+not_second a b us vs stop.OutOfMemory h r = tt
+not_second a b us vs stop.Unexpected h r = choice_not_second h r
+not_second a b us vs stop.TooLarge h r = choice_not_second h r

@@ -2,8 +2,8 @@
 use Rattle.std.proofs.Common.{◌≡◌, ℕ, ◌<◌, ◌≤◌, ◌^◌, ◌&&◌, ◌||◌, not, Bool, true, false, List, [], ◌∷◌, refl, sym, ◌∙◌, ap, subst, lt-ltb, le-ltb, arith}
 use Rattle.std.specs.Prelude.{nat_lt, Some}
 use Rattle.quil_shape.specs.Shape.{Shape}
-use Rattle.quil_shape.specs.Shape.Shape.{One}
-use Rattle.quil_shape.specs.Reads.{Advances, Halts, Exceeds, starts}
+use Rattle.quil_shape.specs.Shape.Shape.{One, Seq}
+use Rattle.quil_shape.specs.Reads.{Advances, Halts, Exceeds, starts, is_barred}
 use Rattle.quil_shape.proofs.Reading.{token_advances, token_exceeds, token_halts, end_halts, choice_first, choice_not_first, empty_advances}
 use Rattle.quil_tree.specs.declared.place.Place.{Place}
 use Rattle.quil_tree.specs.declared.statement.Qubit.{Qubit}
@@ -18,13 +18,15 @@ use Rattle.quil_grammar.specs.declared.stop.Stop.{Stop}
 use Rattle.quil_grammar.specs.declared.stop.Stop.TheVariants as stop
 use Rattle.quil_grammar.specs.Sort.{is_sort, is_whole}
 use Rattle.quil_grammar.specs.Token.{Token}
-use Rattle.quil_grammar.specs.Grammar.{quil, tables, accepts, value_of, said, name_at, is_too_large, is_wide, whole_of, value_behind, Name, Event}
+use Rattle.quil_grammar.specs.Grammar.{quil, accepts, value_of, said, name_at, is_too_large, is_wide, whole_of, value_behind, Name, Event}
+use Rattle.quil_grammar.specs.Tables.{tables}
 use Rattle.quil_grammar.specs.Grammar.Event.{Makes}
 use Rattle.quil_grammar.specs.Grammar.Piece.{Says, Names, Takes, Acts, Counts, Keeps}
 use Rattle.quil_grammar.specs.Frames.{is_next, StopsFor}
 use Rattle.quil_grammar.specs.Parts.{Part}
 use Rattle.quil_grammar.specs.Parts.Part.{Made}
 use Rattle.quil_grammar.specs.Statements.{address, maybe}
+use Rattle.quil_grammar.proofs.Values.{fits, exceeds}
 use Rattle.quil_statement.specs.Says.{is_word, is_silent, is_naming, is_counting, is_keeping, Reads, maybe_cell, maybe_qubit}
 
 -- no token that may stand in the place
@@ -116,12 +118,6 @@ counting_makes class.Length t vs e = (refl, refl)
 counting_makes class.OffsetCount t vs e = (refl, refl)
 counting_makes _ t vs e = absurd (cc)
 
-fits : (n : ℕ) → n < 2 ^ 64 → not (nat_lt n (2 ^ 64)) ≡ false
-fits n h = ap not (lt-ltb n (2 ^ 64) h)
-
-exceeds : (n : ℕ) → 2 ^ 64 ≤ n → not (nat_lt n (2 ^ 64)) ≡ true
-exceeds n h = ap not (le-ltb n (2 ^ 64) h)
-
 pub count_read : (c : Class) (us vs : List Token) (t : Token) (digits : List ℕ) (value : ℕ) → is_counting c ≡ true → us ≡ t ∷ vs → accepts c t.sort ≡ true → value ≡ value_behind 0 t.text → value < 2 ^ 64 → digits ≡ t.text
     → Reads (One c) us vs (Made (Counts (record { digits = digits; value = value })) ∷ [])
 count_read c us vs t digits value w e a f small g =
@@ -182,6 +178,22 @@ pub one_starts : (c : Class) (us : List Token) → is_next c us ≡ true → sta
 unfolding quil tables
 one_starts c [] e = absurd (cc)
 one_starts c (t ∷ us) e = e
+
+pub one_barred : (c : Class) (us : List Token) → is_next c us ≡ false → is_barred quil tables (One c) us ≡ true
+unfolding quil tables
+one_barred c [] e = refl
+one_barred c (t ∷ us) e = rw e refl
+
+-- the same of what begins with one
+pub word_starts : (c : Class) (a : Shape Class Event Name) (us : List Token) → is_next c us ≡ true → starts quil tables (Seq (One c) a) us ≡ true
+unfolding quil tables
+word_starts c a [] e = absurd (cc)
+word_starts c a (t ∷ us) e = rw e refl
+
+pub word_barred : (c : Class) (a : Shape Class Event Name) (us : List Token) → is_next c us ≡ false → is_barred quil tables (Seq (One c) a) us ≡ true
+unfolding quil tables
+word_barred c a [] e = refl
+word_barred c a (t ∷ us) e = rw e refl
 
 pub maybe_reads : (s : Shape Class Event Name) (us vs : List Token) (ps : List Part) → starts quil tables s us ≡ true → Reads s us vs ps → Reads (maybe s) us vs ps
 maybe_reads s us vs ps e r = choice_first e r

@@ -19,7 +19,8 @@ use Rattle.quil_grammar.specs.declared.sort.Sort.{Sort}
 use Rattle.quil_grammar.specs.declared.class.Class.{Class}
 use Rattle.quil_grammar.specs.declared.class.Class.TheVariants as class
 use Rattle.quil_grammar.specs.Token.{Token}
-use Rattle.quil_grammar.specs.Grammar.{quil, tables, Name, Event, Sum}
+use Rattle.quil_grammar.specs.Grammar.{quil, Name, Event, Sum}
+use Rattle.quil_grammar.specs.Tables.{tables}
 use Rattle.quil_grammar.specs.Grammar.Piece.{Says, Names, Takes, Acts, Counts, Keeps}
 use Rattle.quil_grammar.specs.Written.{Written, formula_of}
 use Rattle.quil_grammar.specs.Frames.{is_next}

@@ -12,7 +12,8 @@ use Rattle.quil_tree.specs.declared.item.Item.{Item}
 use Rattle.quil_grammar.specs.declared.class.Class.{Class}
 use Rattle.quil_grammar.specs.declared.class.Class.TheVariants as class
 use Rattle.quil_grammar.specs.Token.{Token}
-use Rattle.quil_grammar.specs.Grammar.{quil, tables, Name, Event}
+use Rattle.quil_grammar.specs.Grammar.{quil, Name, Event}
+use Rattle.quil_grammar.specs.Tables.{tables}
 use Rattle.quil_grammar.specs.Grammar.Piece.{Acts}
 use Rattle.quil_grammar.specs.Written.{Written, operand_of}
 use Rattle.quil_grammar.specs.Parts.{Part, parts_events}

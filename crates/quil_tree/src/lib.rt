@@ -32,12 +32,4 @@ pub use statement::{
 pub use text::Text;
 
 #[cfg(test)]
-mod build;
-#[cfg(test)]
-mod item_tests;
-#[cfg(test)]
-mod print_tests;
-#[cfg(test)]
-mod statement_tests;
-#[cfg(test)]
 mod tests;
