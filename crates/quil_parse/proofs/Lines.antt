@@ -26,39 +26,17 @@ use Rattle.quil_grammar.specs.declared.stop.Stop.{Stop}
 use Rattle.quil_grammar.specs.declared.stop.Stop.TheVariants as stop
 use Rattle.quil_grammar.specs.Sort.{is_sort}
 use Rattle.quil_grammar.specs.Token.{Token}
-use Rattle.quil_grammar.specs.Grammar.{quil, tables, Name, Event}
+use Rattle.quil_grammar.specs.Grammar.{quil, Name, Event}
+use Rattle.quil_grammar.specs.Tables.{tables}
 use Rattle.quil_grammar.specs.Frames.{StopsFor}
 use Rattle.quil_grammar.specs.Parts.{parts_events}
 use Rattle.quil_grammar.specs.Statements.{top_level, statement, matrix_row, permutation_row, nowhere, nothing}
+use Rattle.quil_grammar.proofs.Decided.{decided_top, decided_statement, decided_row, decided_numbers, decided_nowhere, decided_nothing}
 use Rattle.quil_statement.specs.Says.{SaysItem, SaysLine, SaysRow, SaysNumbers}
 use Rattle.quil_parse.specs.Program.{wants_body, row_shape, body_shape, line_shape, with_statement, added, line_fault}
 use Rattle.quil_parse.specs.Steps.{IsAdded, IsRowAdded, IsBodyAdded, IsStopped, OrNoMemory, IsFaultAt, IsFaultBehind, last_first}
 
 -- one token decides what stands in a line
-decided_top : is_decided_by_one_token quil tables top_level ≡ true
-unfolding quil tables
-decided_top = refl
-
-decided_statement : is_decided_by_one_token quil tables statement ≡ true
-unfolding quil tables
-decided_statement = refl
-
-decided_row : is_decided_by_one_token quil tables matrix_row ≡ true
-unfolding quil tables
-decided_row = refl
-
-decided_numbers : is_decided_by_one_token quil tables permutation_row ≡ true
-unfolding quil tables
-decided_numbers = refl
-
-decided_nowhere : is_decided_by_one_token quil tables nowhere ≡ true
-unfolding quil tables
-decided_nowhere = refl
-
-decided_nothing : is_decided_by_one_token quil tables nothing ≡ true
-unfolding quil tables
-decided_nothing = refl
-
 row_decided : (f : Form) → is_decided_by_one_token quil tables (row_shape f) ≡ true
 row_decided (form.Matrix rows) = decided_row
 row_decided (form.Permutation []) = decided_numbers

@@ -20,10 +20,13 @@ use Rattle.quil_grammar.specs.declared.fault.ReadFault.TheVariants as fault
 use Rattle.quil_grammar.specs.declared.sort.Sort.TheVariants as sort
 use Rattle.quil_grammar.specs.Sort.{is_sort}
 use Rattle.quil_grammar.specs.Token.{Token, span_end}
-use Rattle.quil_grammar.specs.Grammar.{quil, tables, Name, Event}
+use Rattle.quil_grammar.specs.Grammar.{quil, Name, Event}
+use Rattle.quil_grammar.specs.Tables.{tables}
 use Rattle.quil_grammar.specs.Parts.{Part, parts_events}
-use Rattle.quil_grammar.specs.Answer.{Gives, most_bytes, bad_or_unexpected}
+use Rattle.quil_grammar.specs.Answer.{Gives}
+use Rattle.quil_grammar.specs.declared.parse.TheConstants.{MOST_BYTES}
 use Rattle.quil_grammar.proofs.Parts.{same_parts}
+use Rattle.quil_grammar.proofs.Verdicts.{not_too_long}
 use Rattle.quil_parse.specs.Program.{Goes, ends, lacks_body, skips, reads, refuses, Says, IsLineFault, IsTreeOf, IsRefused, IsFaultOf, line_shape, with_parts, line_fault, is_left_out, is_empty, line_end, beginning}
 use Rattle.quil_parse.specs.Steps.{IsAdded, IsStopped, OrNoMemory, tokens_behind}
 use Rattle.quil_parse.specs.Told.{Tells, GoesOnBehind, RefusesBehind}
@@ -78,18 +81,13 @@ same_end {is = is} (refuses {s = s} {f = f} e x) (reads ps d y w g) = absurd (sa
 same_end {is = is} (refuses {s = s} {f = f} e x) (refuses {f = g} d y) = ap (λ z. Err z) (same_line_fault is s f g x y)
 
 -- no line is refused because the text is too long
-bad_not_long : (b : Bool) (p : Place) (n : ℕ) → bad_or_unexpected b p ≡ fault.TextTooLong n → ⊥
-bad_not_long true p n e = absurd (cc)
-bad_not_long false p n e = absurd (cc)
-
 large_not_long : (b : Bool) (t : Token) (n : ℕ) → (if b then fault.LeftOut t.place.line t.text else fault.NumberTooWide t.place.line t.place.column) ≡ fault.TextTooLong n → ⊥
 large_not_long true t n e = absurd (cc)
 large_not_long false t n e = absurd (cc)
 
 not_long : (p : Place) (v : Verdict Event Token) (n : ℕ) → line_fault p v ≡ Some (fault.TextTooLong n) → ⊥
 not_long p (Read os) n e = absurd (cc)
-not_long p (Refused []) n e = absurd (cc)
-not_long p (Refused (t ∷ ts)) n e = bad_not_long (is_sort t.sort sort.Bad) t.place n (cc)
+not_long p (Refused ts) n e = not_too_long p (Refused ts) n e
 not_long p (TooLarge []) n e = absurd (cc)
 not_long p (TooLarge (t ∷ ts)) n e = large_not_long (is_left_out t.sort) t n (cc)
 
@@ -134,7 +132,7 @@ finish_err (Err f) read ss g (inl e) = inl e
 finish_err (Err f) read ss g (inr e) = subst (λ q. IfErr q (λ z. OrNoMemory z (Goes beginning [] ss (Err z)))) e g
 
 -- what is told of a text
-pub tells : (text : List ℕ) (spans : List Span) (r : Result (List Item) ReadFault) → length text ≤ most_bytes → IsReading text spans
+pub tells : (text : List ℕ) (spans : List Span) (r : Result (List Item) ReadFault) → length text ≤ MOST_BYTES → IsReading text spans
     → IfOk r (λ tree. Goes beginning [] spans (Ok (reverse tree))) → IfErr r (λ f. OrNoMemory f (Goes beginning [] spans (Err f))) → Tells text r
 tells text spans (Ok tree) short reading h k = record { is_short = short; spans = spans; is_reading = reading; goes = h }
 tells text spans (Err f) short reading h k = elim k [
@@ -165,7 +163,7 @@ not_refused text t f a b =
     absurd (cc)
 
 -- each fault but these two is a refusal
-refusal : (text : List ℕ) (f : ReadFault) → length text ≤ most_bytes → f ≢ fault.OutOfMemory → IsFaultOf text f → IsRefused text f
+refusal : (text : List ℕ) (f : ReadFault) → length text ≤ MOST_BYTES → f ≢ fault.OutOfMemory → IsFaultOf text f → IsRefused text f
 refusal text fault.OutOfMemory short some x = absurd (some refl)
 refusal text (fault.NumberTooWide l c) short some x = x
 refusal text (fault.BadToken l c) short some x = x
@@ -201,17 +199,17 @@ gives_fault text (Ok tree) f h x = absurd (not_refused text tree f h x)
 gives_fault text (Err g) f (inl e) x = inr (ap (λ z. Err z) e)
 gives_fault text (Err g) f (inr h) x = inl (ap (λ z. Err z) (same_fault text g f h x))
 
-pub only_fault : (text : List ℕ) (r : Result (List Item) ReadFault) (f : ReadFault) → Tells text r → length text ≤ most_bytes → f ≢ fault.OutOfMemory → IsFaultOf text f → Gives r (Err f)
+pub only_fault : (text : List ℕ) (r : Result (List Item) ReadFault) (f : ReadFault) → Tells text r → length text ≤ MOST_BYTES → f ≢ fault.OutOfMemory → IsFaultOf text f → Gives r (Err f)
 only_fault text r f h short some x = gives_fault text r f h (refusal text f short some x)
 
 -- a text that is too long is no program, and has no other fault
-pub no_tree : (text : List ℕ) (t : List Item) → most_bytes < length text → IsTreeOf text t → ⊥
+pub no_tree : (text : List ℕ) (t : List Item) → MOST_BYTES < length text → IsTreeOf text t → ⊥
 no_tree text t long x = let short = x.is_short in absurd (omega arith)
 
-not_short : (text : List ℕ) (f : ReadFault) → most_bytes < length text → IsRefused text f → ⊥
+not_short : (text : List ℕ) (f : ReadFault) → MOST_BYTES < length text → IsRefused text f → ⊥
 not_short text f long x = let short = x.is_short in absurd (omega arith)
 
-pub long_fault : (text : List ℕ) (f : ReadFault) → most_bytes < length text → f ≢ fault.OutOfMemory → IsFaultOf text f → f ≡ fault.TextTooLong (length text)
+pub long_fault : (text : List ℕ) (f : ReadFault) → MOST_BYTES < length text → f ≢ fault.OutOfMemory → IsFaultOf text f → f ≡ fault.TextTooLong (length text)
 long_fault text fault.OutOfMemory long some x = absurd (some refl)
 long_fault text (fault.NumberTooWide l c) long some x = absurd (not_short text (fault.NumberTooWide l c) long x)
 long_fault text (fault.BadToken l c) long some x = absurd (not_short text (fault.BadToken l c) long x)

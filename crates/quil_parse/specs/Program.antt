@@ -24,7 +24,8 @@ use Rattle.quil_grammar.specs.Token.{Token, Context, no_context, span_tokens, sp
 use Rattle.quil_grammar.specs.Grammar.{quil, Name, Event}
 use Rattle.quil_grammar.specs.Parts.{Part, parts_events}
 use Rattle.quil_grammar.specs.Statements.{top_level, statement, matrix_row, permutation_row, nowhere, nothing}
-use Rattle.quil_grammar.specs.Answer.{most_bytes, bad_or_unexpected}
+use Rattle.quil_grammar.specs.Answer.{fault_of}
+use Rattle.quil_grammar.specs.declared.parse.TheConstants.{MOST_BYTES}
 use Rattle.quil_statement.specs.Meaning.{item_of, line_of, row_of, numbers_of}
 
 -- Items are listed here with the last one first: a line of a body belongs to the definition that was begun last.
@@ -122,8 +123,7 @@ too_large t = if is_left_out t.sort then fault.LeftOut t.place.line t.text else 
 -- the fault of a line that ends there: at the first token that no front goes on with, or at its end
 abbrev pub line_fault : Place → Verdict Event Token → Option ReadFault
 line_fault p (Read os) = None
-line_fault p (Refused []) = Some (fault.Unexpected p.line p.column)
-line_fault p (Refused (t ∷ ts)) = Some (bad_or_unexpected (is_sort t.sort sort.Bad) t.place)
+line_fault p (Refused ts) = fault_of p (Refused ts)
 line_fault p (TooLarge []) = None
 line_fault p (TooLarge (t ∷ ts)) = Some (too_large t)
 
@@ -166,20 +166,20 @@ beginning = record { line = 1; column = 1 }
 
 -- the text is this program
 pub record IsTreeOf (text : List ℕ) (tree : List Item) : Type 0 where
-  pub is_short : length text ≤ most_bytes
+  pub is_short : length text ≤ MOST_BYTES
   pub spans : List Span
   pub is_reading : IsReading text spans
   pub goes : Goes beginning [] spans (Ok (reverse tree))
 
 -- the text is refused with this fault
 pub record IsRefused (text : List ℕ) (f : ReadFault) : Type 0 where
-  pub is_short : length text ≤ most_bytes
+  pub is_short : length text ≤ MOST_BYTES
   pub spans : List Span
   pub is_reading : IsReading text spans
   pub goes : Goes beginning [] spans (Err f)
 
 abbrev pub IsFaultOf : List ℕ → ReadFault → Type 0
-IsFaultOf text (fault.TextTooLong n) = (most_bytes < length text) × (n ≡ length text)
+IsFaultOf text (fault.TextTooLong n) = (MOST_BYTES < length text) × (n ≡ length text)
 IsFaultOf text fault.OutOfMemory = Unit {0}
 IsFaultOf text (fault.NumberTooWide line column) = IsRefused text (fault.NumberTooWide line column)
 IsFaultOf text (fault.BadToken line column) = IsRefused text (fault.BadToken line column)

@@ -11,7 +11,7 @@ ghost use Rattle.quil_parse.specs.Steps.{names_in, so_far, last_first, tokens_be
 
 use crate::context::Context;
 use crate::tokens::{line_tokens, statement_end};
-use quil_grammar::{ReadFault, Sort, Stop, Token};
+use quil_grammar::{ReadFault, Sort, Stop, Token, refusal};
 use quil_lex::Segment;
 use quil_statement::{read_item, read_numbers, read_row, read_statement};
 use quil_tree::{Form, Item, List, Place, Text};
@@ -24,24 +24,6 @@ fn pushed<T: Drop>(mut list: List<T>, item: T) -> Result<List<T>, AllocError>
 {
     list.push(item)?;
     Ok(list)
-}
-
-// The fault where no line goes on with the first of these tokens, or where none is left.
-fn refusal(rest: &[Token<'_>], end: Place) -> ReadFault
-    ensures { line_fault end (Refused rest.now) ≡ Some result }
-{
-    let Some(token) = rest.first() else {
-        return ReadFault::Unexpected {
-            line: end.line,
-            column: end.column,
-        };
-    };
-    let Place { line, column } = token.place();
-    if token.sort().is(Sort::Bad) {
-        ReadFault::BadToken { line, column }
-    } else {
-        ReadFault::Unexpected { line, column }
-    }
 }
 
 // The fault of a token that is too large.

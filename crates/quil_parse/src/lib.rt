@@ -15,7 +15,11 @@ pub use program::parse;
 pub use quil_grammar::{ReadFault, parse_expr};
 
 #[cfg(test)]
+mod expression_tests;
+#[cfg(test)]
 mod long_tests;
+#[cfg(test)]
+mod print_tests;
 #[cfg(test)]
 mod program_tests;
 #[cfg(test)]

@@ -3,7 +3,8 @@
 ghost use Rattle.std.specs.Prelude.{◌≡◌, ◌≢◌, ℕ, ◌<◌, ◌≤◌, List, [], length, map, reverse, IfOk, IfErr, OnOk, Ok, Err};
 ghost use Rattle.quil_lex.specs.Reading.{span_of};
 ghost use Rattle.quil_tree.specs.declared.item.Item.{Item};
-ghost use Rattle.quil_grammar.specs.Answer.{Gives, most_bytes};
+ghost use Rattle.quil_grammar.specs.Answer.{Gives};
+ghost use Rattle.quil_grammar.specs.declared.parse.TheConstants.{MOST_BYTES};
 ghost use Rattle.quil_grammar.specs.declared.fault.ReadFault as fault;
 ghost use Rattle.quil_parse.specs.Program.{IsTreeOf, IsFaultOf, Goes, beginning, body_context};
 ghost use Rattle.quil_parse.specs.Told.{Tells, GoesOnBehind, RefusesBehind};
@@ -77,7 +78,7 @@ fn read_lines(alloc: Global, segments: &[Segment<'_>]) -> Result<Tree, ReadFault
 
 // The tree of a text that isn't too long.
 fn read(alloc: Global, text: &[u8]) -> Result<Tree, ReadFault>
-    requires { length text.now ≤ most_bytes }
+    requires { length text.now ≤ MOST_BYTES }
     ensures { Tells text.now result }
 {
     let lexemes = tokens_to_bad_byte(alloc, text)?;
@@ -99,7 +100,7 @@ pub fn parse(alloc: Global, text: &[u8]) -> Result<Tree, ReadFault>
     // A text is refused with its fault, and with no other. One that is too long takes no memory.
     ensures refused { IfErr result (IsFaultOf text.now) }
     ensures only_fault { (f : fault.ReadFault) → f ≢ ReadFault.OutOfMemory → IsFaultOf text.now f → Gives result (Err f) }
-    ensures too_long { most_bytes < length text.now → result ≡ Err (ReadFault.TextTooLong (length text.now)) }
+    ensures too_long { MOST_BYTES < length text.now → result ≡ Err (ReadFault.TextTooLong (length text.now)) }
 {
     if text.len() > MOST_BYTES {
         return Err(ReadFault::TextTooLong {

@@ -3,7 +3,7 @@
 //! A part that has a place of its own ends with `@line:column`. An expression is its steps in parentheses, a formal qubit
 //! begins with `$`, a pragma's tokens stand in angle brackets, and a number whose digits aren't those of its value has both.
 
-use crate::parse;
+use crate::{parse, parse_expr};
 use quil_grammar::ReadFault;
 use quil_tree::*;
 use std::alloc::{AllocError, Global};
@@ -74,14 +74,18 @@ fn action(alloc: Global, action: &Action) -> Said {
     format!(in alloc; "{word}")
 }
 
-fn formula(alloc: Global, formula: &Formula) -> Said {
+fn steps(alloc: Global, expr: &Expr) -> Said {
     let mut said = String::new(alloc);
-    for step in formula.expr.steps() {
+    for step in expr.steps() {
         said.push_str(if said.is_empty() { "(" } else { " " })?;
         said.push_str(&at(alloc, &action(alloc, &step.action)?, step.place)?)?;
     }
     said.push_str(")")?;
-    at(alloc, &said, formula.place)
+    Ok(said)
+}
+
+fn formula(alloc: Global, formula: &Formula) -> Said {
+    at(alloc, &steps(alloc, &formula.expr)?, formula.place)
 }
 
 fn operand(alloc: Global, operand: &Operand) -> Said {
@@ -438,21 +442,54 @@ fn is_read_again(alloc: Global, text: &[u8]) -> Result<bool, AllocError> {
     Ok(first.as_slice() == second.as_slice())
 }
 
-// What is wrong of a text that is to give this: it gives something else, or its tree isn't printed as itself.
-fn miss(alloc: Global, text: &str, want: &str) -> Said {
-    let found = told(alloc, text.as_bytes())?;
-    if found.as_str() != want {
-        return format!(in alloc; "\n{text:?} gives {found} and not {want}");
+// What `parse_expr` gives, as a text.
+fn told_expression(alloc: Global, text: &[u8]) -> Said {
+    match parse_expr(alloc, text) {
+        Ok(expr) => steps(alloc, &expr),
+        Err(fault) => fault_text(alloc, &fault),
     }
-    if is_read_again(alloc, text.as_bytes())? {
+}
+
+// What the tree of a text is printed as, with `⏎` for line feeds, or its fault.
+fn told_printed(alloc: Global, program: &[u8]) -> Said {
+    match parse(alloc, program) {
+        Ok(tree) => {
+            let printed = print(alloc, &tree)?;
+            text(&printed).replace(alloc, "\n", "⏎")
+        }
+        Err(fault) => fault_text(alloc, &fault),
+    }
+}
+
+// What is asked of a text.
+#[derive(Clone, Copy)]
+enum Reading {
+    Program,
+    Expression,
+    Printed,
+}
+
+// What is wrong of a text that is to give this: it gives something else, or its tree isn't printed as itself.
+fn miss(alloc: Global, reading: Reading, text: &str, want: &str) -> Said {
+    let (found, is_same) = match reading {
+        Reading::Program => (
+            told(alloc, text.as_bytes())?,
+            is_read_again(alloc, text.as_bytes())?,
+        ),
+        Reading::Expression => (told_expression(alloc, text.as_bytes())?, true),
+        Reading::Printed => (told_printed(alloc, text.as_bytes())?, true),
+    };
+    if found.as_str() != want {
+        format!(in alloc; "\n{text:?} gives {found} and not {want}")
+    } else if is_same {
         Ok(String::new(alloc))
     } else {
         format!(in alloc; "\n{text:?} is printed as another tree")
     }
 }
 
-/// What is wrong of the rows of a table, one a line: a text, ` => `, and what it gives. In a text `⏎` stands for a line feed.
-pub(crate) fn misses(alloc: Global, table: &str) -> Said {
+// What is wrong of the rows of a table, one a line: a text, ` => `, and what it gives. In a text `⏎` stands for a line feed.
+fn misses_of(alloc: Global, reading: Reading, table: &str) -> Said {
     let mut all = String::new(alloc);
     for row in table.lines() {
         let Some((text, want)) = row.split_once(" => ") else {
@@ -460,7 +497,42 @@ pub(crate) fn misses(alloc: Global, table: &str) -> Said {
             continue;
         };
         let text = text.replace(alloc, "⏎", "\n")?;
-        all.push_str(&miss(alloc, &text, want)?)?;
+        all.push_str(&miss(alloc, reading, &text, want)?)?;
     }
     Ok(all)
+}
+
+// The same of a table in which each `W` stands for the word, for each of the words, which have spaces between them.
+fn misses_of_words(alloc: Global, reading: Reading, words: &str, table: &str) -> Said {
+    let mut all = String::new(alloc);
+    for word in words.split(' ') {
+        let rows = table.replace(alloc, "W", word)?;
+        all.push_str(&misses_of(alloc, reading, &rows)?)?;
+    }
+    Ok(all)
+}
+
+/// What is wrong of a table of programs, each with its tree or its fault.
+pub(crate) fn misses(alloc: Global, table: &str) -> Said {
+    misses_of(alloc, Reading::Program, table)
+}
+
+/// The same for each of these words in place of `W`.
+pub(crate) fn misses_with(alloc: Global, words: &str, table: &str) -> Said {
+    misses_of_words(alloc, Reading::Program, words, table)
+}
+
+/// What is wrong of a table of expressions, each with its steps or its fault.
+pub(crate) fn expression_misses(alloc: Global, table: &str) -> Said {
+    misses_of(alloc, Reading::Expression, table)
+}
+
+/// The same for each of these words in place of `W`.
+pub(crate) fn expression_misses_with(alloc: Global, words: &str, table: &str) -> Said {
+    misses_of_words(alloc, Reading::Expression, words, table)
+}
+
+/// What is wrong of a table of programs, each with its printed text.
+pub(crate) fn printed_misses(alloc: Global, table: &str) -> Said {
+    misses_of(alloc, Reading::Printed, table)
 }

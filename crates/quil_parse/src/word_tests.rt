@@ -1,16 +1,5 @@
-use crate::tree_text::misses;
-use std::alloc::{AllocError, Global};
+use crate::tree_text::misses_with;
 use std::test::*;
-
-// The misses of a table in which each `W` stands for the word, for each of the words, which have spaces between them.
-fn misses_with(alloc: Global, words: &str, table: &str) -> Result<String, AllocError> {
-    let mut all = String::new(alloc);
-    for word in words.split(' ') {
-        let rows = table.replace(alloc, "W", word)?;
-        all.push_str(&misses(alloc, &rows)?)?;
-    }
-    Ok(all)
-}
 
 #[test]
 fn reserved_words_name_nothing_else(rt: HostRuntime) -> Result<(), Fail> {

@@ -9,7 +9,8 @@ use Rattle.quil_shape.specs.Reads.{Reads}
 use Rattle.quil_shape.specs.Verdict.{IsReading as IsWhole}
 use Rattle.quil_grammar.specs.declared.class.Class.{Class}
 use Rattle.quil_grammar.specs.Token.{Token, Context, token_in, line_tokens}
-use Rattle.quil_grammar.specs.Grammar.{quil, tables, Name, Event}
+use Rattle.quil_grammar.specs.Grammar.{quil, Name, Event}
+use Rattle.quil_grammar.specs.Tables.{tables}
 use Rattle.quil_grammar.specs.Parts.{Part, parts_events}
 use Rattle.quil_grammar.proofs.Parts.{same_parts}
 use Rattle.quil_round_trip.proofs.Words.{tok, bare, Fits, AreFit, toks}

@@ -12,8 +12,10 @@ use Rattle.quil_tree.specs.Printed.{with_commas}
 use Rattle.quil_grammar.specs.declared.class.Class.{Class}
 use Rattle.quil_grammar.specs.declared.class.Class.TheVariants as class
 use Rattle.quil_grammar.specs.Token.{Token, Context}
-use Rattle.quil_grammar.specs.Grammar.{quil, tables, accepts, value_of, Name, Event}
+use Rattle.quil_grammar.specs.Grammar.{quil, accepts, value_of, Name, Event}
+use Rattle.quil_grammar.specs.Tables.{tables}
 use Rattle.quil_grammar.specs.Parts.{Part, part_events, parts_events}
+use Rattle.quil_statement.specs.Loops.{listed as comma_list}
 use Rattle.quil_round_trip.proofs.Inversion.{Chain, many}
 use Rattle.quil_round_trip.proofs.Words.{tok, Fits, AreFit, toks, toks_append, bytes_append, apart_append}
 use Rattle.quil_round_trip.proofs.Soundness.{fits_left}
@@ -38,9 +40,6 @@ pub record Member (c : Context) (s : Shape Class Event Name) (Behind : List Toke
   pub read : (ts us : List Token) (os : List Event) → Reads quil tables s ts (Made os us) → AreFit c ts → (a : A) × (os ≡ part_events (part a))
   pub piece : (a : A) → Piece c s Behind (text a) (part_events (again a))
   pub before_comma : (us : List Token) → Behind (tok c (kind.Mark mark.Comma) (44 ∷ []) ∷ us)
-
-abbrev pub comma_list : Shape Class Event Name → Shape Class Event Name
-comma_list s = Seq s (Many (Seq (One class.Comma) s))
 
 -- ---- what was read
 

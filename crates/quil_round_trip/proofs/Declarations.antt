@@ -16,7 +16,8 @@ use Rattle.quil_grammar.specs.declared.sort.Sort.TheVariants as sort
 use Rattle.quil_grammar.specs.declared.class.Class.TheVariants as class
 use Rattle.quil_grammar.specs.Sort.{is_sort, word_sort}
 use Rattle.quil_grammar.specs.Token.{Token, Context}
-use Rattle.quil_grammar.specs.Grammar.{quil, tables, accepts, name_at, whole_of, is_wide, Event}
+use Rattle.quil_grammar.specs.Grammar.{quil, accepts, name_at, whole_of, is_wide, Event}
+use Rattle.quil_grammar.specs.Tables.{tables}
 use Rattle.quil_grammar.specs.Grammar.Piece.{Says, Names, Counts}
 use Rattle.quil_grammar.specs.Grammar.Event.{Makes}
 use Rattle.quil_grammar.specs.Parts.{Part, parts_events}

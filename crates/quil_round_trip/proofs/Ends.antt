@@ -13,8 +13,10 @@ use Rattle.quil_grammar.specs.declared.class.Class.{Class}
 use Rattle.quil_grammar.specs.declared.class.Class.TheVariants as class
 use Rattle.quil_grammar.specs.declared.sort.Sort.TheVariants as sort
 use Rattle.quil_grammar.specs.Token.{Token, Context, bad_token, line_tokens, span_tokens}
-use Rattle.quil_grammar.specs.Grammar.{quil, tables, accepts, Name, Event}
+use Rattle.quil_grammar.specs.Grammar.{quil, accepts, Name, Event}
+use Rattle.quil_grammar.specs.Tables.{tables}
 use Rattle.quil_grammar.specs.Statements.{top_level, statement, matrix_row, permutation_row, nowhere, nothing}
+use Rattle.quil_grammar.proofs.Decided.{decided_nowhere, decided_nothing}
 use Rattle.quil_round_trip.proofs.Inversion.{one}
 use Rattle.quil_round_trip.proofs.Places.{whole_reads}
 
@@ -133,30 +135,6 @@ pub read_tokens : (s : Shape Class Event Name) → is_decided_by_one_token quil 
 read_tokens s d c span os w =
     let r = whole_reads s d (span_tokens c span) os w in
     ap (λ xs. line_tokens c span.lexemes ++ xs) (ends_whole s (line_tokens c span.lexemes) span.line span.end os r) ∙ append-nil (line_tokens c span.lexemes)
-
-pub decided_top : is_decided_by_one_token quil tables top_level ≡ true
-unfolding quil tables
-decided_top = refl
-
-pub decided_statement : is_decided_by_one_token quil tables statement ≡ true
-unfolding quil tables
-decided_statement = refl
-
-pub decided_row : is_decided_by_one_token quil tables matrix_row ≡ true
-unfolding quil tables
-decided_row = refl
-
-pub decided_numbers : is_decided_by_one_token quil tables permutation_row ≡ true
-unfolding quil tables
-decided_numbers = refl
-
-pub decided_nowhere : is_decided_by_one_token quil tables nowhere ≡ true
-unfolding quil tables
-decided_nowhere = refl
-
-pub decided_nothing : is_decided_by_one_token quil tables nothing ≡ true
-unfolding quil tables
-decided_nothing = refl
 
 -- where nothing may stand
 pub not_nowhere : (ts : List Token) (os : List Event) → IsWhole quil nowhere ts os → ⊥

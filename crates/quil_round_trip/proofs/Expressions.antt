@@ -1,7 +1,7 @@
 -- The text of an expression is read as that expression again, up to places.
 use Rattle.std.proofs.Common.{◌≡◌, ℕ, Bool, true, false, ◌||◌, inl, inr, List, [], ◌∷◌, ◌++◌, map, refl, sym, ◌∙◌, ap, subst, append_assoc, append-nil}
 use Rattle.std.specs.Prelude.{codes, slice_get}
-use Rattle.std.proofs.lemmas.Bool.{or_left, or_right}
+use Rattle.std.proofs.lemmas.Bool.{or_left, or_right, or_parts}
 use Rattle.std.proofs.lemmas.List.{map-append}
 use Rattle.quil_lex.specs.declared.token.Kind.{Kind}
 use Rattle.quil_lex.specs.declared.token.Kind.TheVariants as kind
@@ -34,7 +34,8 @@ use Rattle.quil_grammar.specs.declared.class.Class.TheVariants as class
 use Rattle.quil_grammar.specs.declared.sort.Sort.{Sort}
 use Rattle.quil_grammar.specs.Sort.{word_sort}
 use Rattle.quil_grammar.specs.Token.{Token, Context}
-use Rattle.quil_grammar.specs.Grammar.{quil, tables, accepts, index, is_operator_next, sign_of, operator_of, function_of, opens_primary, more_terms, more_factors, exponent, parenthesized, Name, Sum, Product, Unary, Primary, Event}
+use Rattle.quil_grammar.specs.Grammar.{quil, accepts, index, is_operator_next, sign_of, operator_of, function_of, more_terms, more_factors, exponent, parenthesized, Name, Sum, Product, Unary, Primary, Event}
+use Rattle.quil_grammar.specs.Tables.{tables, opens_primary}
 use Rattle.quil_grammar.specs.Grammar.Event.{Region, Index, Between, Joined, Opens, Closes}
 use Rattle.quil_grammar.specs.Grammar.Around.{Signed, Parenthesized, Argument}
 use Rattle.quil_grammar.specs.Written.{Written, events, events_of_atom, meaning, start, cell_events}
@@ -104,16 +105,12 @@ pub record IsNone (us : List Token) : Type 0 where
   pub factor : is_next class.Multiplicative us ≡ false
   pub caret : is_next class.Caret us ≡ false
 
-neither : (a b : Bool) → (a || b) ≡ false → (a ≡ false) × (b ≡ false)
-neither true b e = absurd (cc)
-neither false b e = (refl, e)
-
 pub no_operator : (us : List Token) → is_operator_next us ≡ false → IsNone us
 unfolding quil
 no_operator [] e = record { term = refl; factor = refl; caret = refl }
 no_operator (t ∷ us) e =
-    let first = neither (accepts class.Additive t.sort) (accepts class.Multiplicative t.sort || accepts class.Caret t.sort) e in
-    let second = neither (accepts class.Multiplicative t.sort) (accepts class.Caret t.sort) first.1 in
+    let first = or_parts (accepts class.Additive t.sort) (accepts class.Multiplicative t.sort || accepts class.Caret t.sort) e in
+    let second = or_parts (accepts class.Multiplicative t.sort) (accepts class.Caret t.sort) first.1 in
     record { term = first.0; factor = second.0; caret = second.1 }
 
 -- behind an operand nothing more is read where no operator comes next

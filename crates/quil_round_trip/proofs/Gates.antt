@@ -25,7 +25,8 @@ use Rattle.quil_grammar.specs.declared.class.Class.{Class}
 use Rattle.quil_grammar.specs.declared.class.Class.TheVariants as class
 use Rattle.quil_grammar.specs.Sort.{is_sort, number_of, word_sort}
 use Rattle.quil_grammar.specs.Token.{Token, Context}
-use Rattle.quil_grammar.specs.Grammar.{quil, tables, accepts, value_of, said, name_at, qubit_at, is_too_large, Name, Sum, Event}
+use Rattle.quil_grammar.specs.Grammar.{quil, accepts, value_of, said, name_at, qubit_at, is_too_large, Name, Sum, Event}
+use Rattle.quil_grammar.specs.Tables.{tables}
 use Rattle.quil_grammar.specs.Grammar.Piece.{Says, Names, Acts}
 use Rattle.quil_grammar.specs.Grammar.Event.{Makes}
 use Rattle.quil_grammar.specs.Written.{Written, events, formula_of, meaning}
@@ -35,6 +36,9 @@ use Rattle.quil_grammar.specs.Statements.{maybe, parameters, behind_name, named,
 use Rattle.quil_grammar.proofs.Sorts.{same_sort}
 use Rattle.quil_round_trip.specs.Unplaced.{origin, bare_name, bare_qubit, bare_formula, bare_modifier, bare_gate}
 use Rattle.quil_statement.specs.Meaning.{modification_of, modifier_of, name_of, value_of as valued, qubit_of, gate_of, worded, line_of}
+use Rattle.quil_statement.specs.Loops.{Word, word_part, saying, modifier_at, acting, values}
+use Rattle.quil_statement.proofs.Sequences.{parts_append}
+use Rattle.quil_statement.proofs.Gates.{gate_means}
 use Rattle.quil_round_trip.proofs.Inversion.{Chain, one, many, empty}
 use Rattle.quil_round_trip.proofs.Words.{tok, Fits, AreFit, sort_class, kind_of_class}
 use Rattle.quil_round_trip.proofs.Soundness.{fits_left}
@@ -52,30 +56,9 @@ use Rattle.quil_round_trip.proofs.Lines.{lines, copied_qubit, copied_name}
 
 -- ---- the parts of a gate
 
-abbrev pub acting : List Qubit → List Part
-acting qs = map (λ q. Maker (Acts q)) qs
-
-abbrev pub values : List Written → List Part
-values ws = map (λ w. Value w) ws
-
--- a word as it stands
-pub record Spoken : Type 0 where
-  pub place : Place
-  pub class : Class
-  pub sort : Sort
-
-abbrev pub spoken_part : Spoken → Part
-spoken_part w = Maker (Says w.place w.class w.sort)
-
-abbrev pub saying : List Spoken → List Part
-saying ws = map spoken_part ws
-
-abbrev pub modifier_at : Spoken → Modifier
-modifier_at w = record { place = w.place; kind = modification_of w.sort }
-
 -- the same without places
-abbrev pub bare_spoken : Spoken → Spoken
-bare_spoken w = record w { place = origin }
+abbrev pub bare_word : Word → Word
+bare_word w = record w { place = origin }
 
 -- an expression as it is read again
 abbrev pub again_of : Written → Written
@@ -84,25 +67,21 @@ again_of w = canon false (meaning w)
 abbrev pub gate_parts : Called → List Written → List Qubit → List Part
 gate_parts n ws qs = Maker (Names n) ∷ (values ws ++ acting qs)
 
-abbrev pub the_gate : List Spoken → Called → List Written → List Qubit → Gate
+abbrev pub the_gate : List Word → Called → List Written → List Qubit → Gate
 the_gate ms n ws qs = record { modifiers = map modifier_at ms; name = n; parameters = map formula_of ws; qubits = qs }
 
 abbrev pub behind_text : Context → List Written → List Qubit → List ℕ
 behind_text c ws qs = listed (formula_texts c.parameters (map formula_of ws)) ++ flat_map (λ q. codes " " ++ qubit_text q) qs
 
-pub parts_append : (ps qs : List Part) → parts_events (ps ++ qs) ≡ parts_events ps ++ parts_events qs
-parts_append [] qs = refl
-parts_append (p ∷ ps) qs = ap (λ os. part_events p ++ os) (parts_append ps qs) ∙ sym (append_assoc (part_events p) (parts_events ps) (parts_events qs))
-
 pub formulas_bare : (ws : List Written) → map formula_of (map again_of ws) ≡ map bare_formula (map formula_of ws)
 formulas_bare [] = refl
 formulas_bare (w ∷ ws) = ap₂ (λ x xs. x ∷ xs) (formula_bare (formula_of w) (meaning w) refl) (formulas_bare ws)
 
-modifiers_bare : (ws : List Spoken) → map modifier_at (map bare_spoken ws) ≡ map bare_modifier (map modifier_at ws)
+modifiers_bare : (ws : List Word) → map modifier_at (map bare_word ws) ≡ map bare_modifier (map modifier_at ws)
 modifiers_bare [] = refl
 modifiers_bare (w ∷ ws) = ap (λ xs. bare_modifier (modifier_at w) ∷ xs) (modifiers_bare ws)
 
-bare_same : (ms : List Spoken) (n : Called) (ws : List Written) (qs : List Qubit) → the_gate (map bare_spoken ms) (bare_name n) (map again_of ws) (map bare_qubit qs) ≡ bare_gate (the_gate ms n ws qs)
+bare_same : (ms : List Word) (n : Called) (ws : List Written) (qs : List Qubit) → the_gate (map bare_word ms) (bare_name n) (map again_of ws) (map bare_qubit qs) ≡ bare_gate (the_gate ms n ws qs)
 bare_same ms n ws qs = ap₂ (λ xs fs. record { modifiers = xs; name = bare_name n; parameters = fs; qubits = map bare_qubit qs }) (modifiers_bare ms) (formulas_bare ws)
 
 -- the parts of a gate where their places are taken away
@@ -110,7 +89,7 @@ placed_formulas : (ws : List Written) → map formula_of (map bare_written ws) �
 placed_formulas [] = refl
 placed_formulas (w ∷ ws) = ap₂ (λ x xs. x ∷ xs) (formula_of_bare w) (placed_formulas ws)
 
-placed_gate : (ms : List Spoken) (n : Called) (ws : List Written) (qs : List Qubit) → the_gate (map bare_spoken ms) (bare_name n) (map bare_written ws) (map bare_qubit qs) ≡ bare_gate (the_gate ms n ws qs)
+placed_gate : (ms : List Word) (n : Called) (ws : List Written) (qs : List Qubit) → the_gate (map bare_word ms) (bare_name n) (map bare_written ws) (map bare_qubit qs) ≡ bare_gate (the_gate ms n ws qs)
 placed_gate ms n ws qs = ap₂ (λ xs fs. record { modifiers = xs; name = bare_name n; parameters = fs; qubits = map bare_qubit qs }) (modifiers_bare ms) (placed_formulas ws)
 
 placed_behind : (ws : List Written) (qs : List Qubit) → map bare_part (values ws ++ acting qs) ≡ values (map bare_written ws) ++ acting (map bare_qubit qs)
@@ -118,77 +97,9 @@ placed_behind [] [] = refl
 placed_behind [] (q ∷ qs) = ap (λ ps. Maker (Acts (bare_qubit q)) ∷ ps) (placed_behind [] qs)
 placed_behind (w ∷ ws) qs = ap (λ ps. Value (bare_written w) ∷ ps) (placed_behind ws qs)
 
-placed_parts : (ms : List Spoken) (n : Called) (ws : List Written) (qs : List Qubit) → map bare_part (saying ms ++ gate_parts n ws qs) ≡ saying (map bare_spoken ms) ++ gate_parts (bare_name n) (map bare_written ws) (map bare_qubit qs)
+placed_parts : (ms : List Word) (n : Called) (ws : List Written) (qs : List Qubit) → map bare_part (saying ms ++ gate_parts n ws qs) ≡ saying (map bare_word ms) ++ gate_parts (bare_name n) (map bare_written ws) (map bare_qubit qs)
 placed_parts [] n ws qs = ap (λ ps. Maker (Names (bare_name n)) ∷ ps) (placed_behind ws qs)
-placed_parts (w ∷ ms) n ws qs = ap (λ ps. spoken_part (bare_spoken w) ∷ ps) (placed_parts ms n ws qs)
-
--- what stands among the parts of a gate
-module _ (ws : List Written) (qs : List Qubit) where
-  no_modifiers : filter_map modifier_of (values ws ++ acting qs) ≡ []
-  no_modifiers = filter_map-append modifier_of (values ws) (acting qs) ∙ (rw (in_values ws) (in_acting qs)) where
-    in_values : (vs : List Written) → filter_map modifier_of (values vs) ≡ []
-    in_values [] = refl
-    in_values (v ∷ vs) = in_values vs
-
-    in_acting : (rs : List Qubit) → filter_map modifier_of (acting rs) ≡ []
-    in_acting [] = refl
-    in_acting (r ∷ rs) = in_acting rs
-
-  no_names : filter_map name_of (values ws ++ acting qs) ≡ []
-  no_names = filter_map-append name_of (values ws) (acting qs) ∙ (rw (in_values ws) (in_acting qs)) where
-    in_values : (vs : List Written) → filter_map name_of (values vs) ≡ []
-    in_values [] = refl
-    in_values (v ∷ vs) = in_values vs
-
-    in_acting : (rs : List Qubit) → filter_map name_of (acting rs) ≡ []
-    in_acting [] = refl
-    in_acting (r ∷ rs) = in_acting rs
-
-  all_values : filter_map valued (values ws ++ acting qs) ≡ map formula_of ws
-  all_values = filter_map-append valued (values ws) (acting qs) ∙ (rw (in_values ws, in_acting qs) (append-nil (map formula_of ws))) where
-    in_values : (vs : List Written) → filter_map valued (values vs) ≡ map formula_of vs
-    in_values [] = refl
-    in_values (v ∷ vs) = ap (λ fs. formula_of v ∷ fs) (in_values vs)
-
-    in_acting : (rs : List Qubit) → filter_map valued (acting rs) ≡ []
-    in_acting [] = refl
-    in_acting (r ∷ rs) = in_acting rs
-
-  all_qubits : filter_map qubit_of (values ws ++ acting qs) ≡ qs
-  all_qubits = filter_map-append qubit_of (values ws) (acting qs) ∙ (rw (in_values ws) (in_acting qs)) where
-    in_values : (vs : List Written) → filter_map qubit_of (values vs) ≡ []
-    in_values [] = refl
-    in_values (v ∷ vs) = in_values vs
-
-    in_acting : (rs : List Qubit) → filter_map qubit_of (acting rs) ≡ rs
-    in_acting [] = refl
-    in_acting (r ∷ rs) = ap (λ xs. r ∷ xs) (in_acting rs)
-
--- the same behind words
-said_modifiers : (ws : List Spoken) (ps : List Part) → filter_map modifier_of (saying ws ++ ps) ≡ map modifier_at ws ++ filter_map modifier_of ps
-said_modifiers [] ps = refl
-said_modifiers (w ∷ ws) ps = ap (λ ms. modifier_at w ∷ ms) (said_modifiers ws ps)
-
-said_names : (ws : List Spoken) (ps : List Part) → filter_map name_of (saying ws ++ ps) ≡ filter_map name_of ps
-said_names [] ps = refl
-said_names (w ∷ ws) ps = said_names ws ps
-
-said_values : (ws : List Spoken) (ps : List Part) → filter_map valued (saying ws ++ ps) ≡ filter_map valued ps
-said_values [] ps = refl
-said_values (w ∷ ws) ps = said_values ws ps
-
-said_qubits : (ws : List Spoken) (ps : List Part) → filter_map qubit_of (saying ws ++ ps) ≡ filter_map qubit_of ps
-said_qubits [] ps = refl
-said_qubits (w ∷ ws) ps = said_qubits ws ps
-
--- the gate that the parts mean
-pub gate_means : (ms : List Spoken) (n : Called) (vs : List Written) (qs : List Qubit) → gate_of (saying ms ++ gate_parts n vs qs) ≡ Some (statement.Gate (the_gate ms n vs qs))
-gate_means ws n vs qs =
-    let ms : filter_map modifier_of (saying ws ++ gate_parts n vs qs) ≡ map modifier_at ws = said_modifiers ws (gate_parts n vs qs) ∙ ap (λ xs. map modifier_at ws ++ xs) (no_modifiers vs qs) ∙ append-nil (map modifier_at ws) in
-    let ns : filter_map name_of (saying ws ++ gate_parts n vs qs) ≡ n ∷ [] = said_names ws (gate_parts n vs qs) ∙ ap (λ xs. n ∷ xs) (no_names vs qs) in
-    let fs : filter_map valued (saying ws ++ gate_parts n vs qs) ≡ map formula_of vs = said_values ws (gate_parts n vs qs) ∙ all_values vs qs in
-    let rs : filter_map qubit_of (saying ws ++ gate_parts n vs qs) ≡ qs = said_qubits ws (gate_parts n vs qs) ∙ all_qubits vs qs in
-    rw (ns, ms, fs, rs) refl
+placed_parts (w ∷ ms) n ws qs = ap (λ ps. word_part (bare_word w) ∷ ps) (placed_parts ms n ws qs)
 
 -- ---- parameters
 
@@ -439,13 +350,13 @@ modifying = record { word = modifier_word; says = λ t. refl; small = λ t us. r
 forking : Modifying class.Forked
 forking = record { word = forked_word; says = λ t. refl; small = λ t us. refl; means = λ s ps all. refl }
 
-abbrev word_text : Spoken → List ℕ
+abbrev word_text : Word → List ℕ
 word_text w = modification_text (modification_of w.sort)
 
-abbrev said_text : List Spoken → List ℕ
+abbrev said_text : List Word → List ℕ
 said_text ws = flat_map (λ w. blank (word_text w)) ws
 
-abbrev spoken : Class → Token → Spoken
+abbrev spoken : Class → Token → Word
 spoken k t = record { place = t.place; class = k; sort = t.sort }
 
 one_modifier : (c : Context) (k : Class) (m : Modifying k) (s : Sort) → accepts k s ≡ true → Chunk c (One k) Anything (blank (modification_text (modification_of s))) (Makes (Says origin k s) ∷ [])
@@ -460,9 +371,9 @@ abbrev NoModifier : List Token → Type 0
 NoModifier us = starts quil tables (One class.Modifier) us ≡ false
 
 record Modifiers (c : Context) (os : List Event) : Type 0 where
-  pub said : List Spoken
+  pub said : List Word
   pub makes : os ≡ parts_events (saying said)
-  pub chunk : Chunk c (Many (One class.Modifier)) NoModifier (said_text said) (parts_events (saying (map bare_spoken said)))
+  pub chunk : Chunk c (Many (One class.Modifier)) NoModifier (said_text said) (parts_events (saying (map bare_word said)))
 
 modifiers_again : (c : Context) {ts us : List Token} {os : List Event} → Chain quil tables (One class.Modifier) ts os us → AreFit c ts → Modifiers c os
 modifiers_again c Chain.done f = record { said = []; makes = refl; chunk = many_none {B = NoModifier} c (One class.Modifier) (λ us e. e) }
@@ -486,27 +397,27 @@ forked_no_modifier : (s : Sort) → accepts class.Forked s ≡ true → accepts 
 forked_no_modifier s h = subst (λ z. accepts class.Modifier z ≡ false) (sym (same_sort s sort.Forked h)) refl
 
 -- parts and texts of words one behind the other
-said_parts : (a b : List Spoken) (ps : List Part) → parts_events (saying a) ++ parts_events (saying b ++ ps) ≡ parts_events (saying (a ++ b) ++ ps)
+said_parts : (a b : List Word) (ps : List Part) → parts_events (saying a) ++ parts_events (saying b ++ ps) ≡ parts_events (saying (a ++ b) ++ ps)
 said_parts [] b ps = refl
 said_parts (w ∷ a) b ps = ap (λ os. Makes (Says w.place w.class w.sort) ∷ os) (said_parts a b ps)
 
-bare_parts : (a b : List Spoken) (ps : List Part) → parts_events (saying (map bare_spoken a)) ++ parts_events (saying (map bare_spoken b) ++ ps) ≡ parts_events (saying (map bare_spoken (a ++ b)) ++ ps)
+bare_parts : (a b : List Word) (ps : List Part) → parts_events (saying (map bare_word a)) ++ parts_events (saying (map bare_word b) ++ ps) ≡ parts_events (saying (map bare_word (a ++ b)) ++ ps)
 bare_parts [] b ps = refl
 bare_parts (w ∷ a) b ps = ap (λ os. Makes (Says origin w.class w.sort) ∷ os) (bare_parts a b ps)
 
-said_texts : (a b : List Spoken) (y : List ℕ) → said_text a ++ (said_text b ++ y) ≡ said_text (a ++ b) ++ y
+said_texts : (a b : List Word) (y : List ℕ) → said_text a ++ (said_text b ++ y) ≡ said_text (a ++ b) ++ y
 said_texts [] b y = refl
 said_texts (w ∷ a) b y =
     append_assoc (blank (word_text w)) (said_text a) (said_text b ++ y) ∙ ap (λ z. blank (word_text w) ++ z) (said_texts a b y) ∙ sym (append_assoc (blank (word_text w)) (said_text (a ++ b)) y)
 
 -- modifiers, and a gate
 record Modified (c : Context) (s : Shape Class Event Name) (os : List Event) : Type 0 where
-  pub said : List Spoken
+  pub said : List Word
   pub name : Called
   pub written : List Written
   pub qubits : List Qubit
   pub makes : os ≡ parts_events (saying said ++ gate_parts name written qubits)
-  pub chunk : Chunk c s AtEnd (said_text said ++ (blank name.text ++ behind_text c written qubits)) (parts_events (saying (map bare_spoken said) ++ gate_parts (bare_name name) (map again_of written) (map bare_qubit qubits)))
+  pub chunk : Chunk c s AtEnd (said_text said ++ (blank name.text ++ behind_text c written qubits)) (parts_events (saying (map bare_word said) ++ gate_parts (bare_name name) (map again_of written) (map bare_qubit qubits)))
 
 -- the gate stands behind these, or more of them do
 then_named : (c : Context) (ts : List Token) (os : List Event) (b : Shape Class Event Name) → Reads quil tables named ts (Made os []) → AreFit c ts → Modified c (Or named b) os
@@ -573,24 +484,24 @@ modified_again c (suc k) ts os r f =
 -- ---- a gate with modifiers
 
 -- a blank behind each word is one before what comes next
-blanks : (w : Spoken) (ws : List Spoken) (z : List ℕ) → word_text w ++ (said_text ws ++ blank z) ≡ flat_map (λ m. modification_text m.kind ++ codes " ") (map modifier_at (w ∷ ws)) ++ z
+blanks : (w : Word) (ws : List Word) (z : List ℕ) → word_text w ++ (said_text ws ++ blank z) ≡ flat_map (λ m. modification_text m.kind ++ codes " ") (map modifier_at (w ∷ ws)) ++ z
 blanks w [] z = simp append_assoc refl
 blanks w (v ∷ ws) z =
     let behind = flat_map (λ m. modification_text m.kind ++ codes " ") (map modifier_at (v ∷ ws)) in
     ap (λ y. word_text w ++ y) (append_assoc (blank (word_text v)) (said_text ws) (blank z)) ∙ ap (λ y. word_text w ++ blank y) (blanks v ws z)
     ∙ sym (append_assoc (word_text w) (codes " ") (behind ++ z)) ∙ sym (append_assoc (word_text w ++ codes " ") behind z)
 
-modified_text : (w : Spoken) (ws : List Spoken) (n l q : List ℕ) → word_text w ++ (said_text ws ++ (blank n ++ (l ++ q))) ≡ flat_map (λ m. modification_text m.kind ++ codes " ") (map modifier_at (w ∷ ws)) ++ n ++ l ++ q
+modified_text : (w : Word) (ws : List Word) (n l q : List ℕ) → word_text w ++ (said_text ws ++ (blank n ++ (l ++ q))) ≡ flat_map (λ m. modification_text m.kind ++ codes " ") (map modifier_at (w ∷ ws)) ++ n ++ l ++ q
 modified_text w ws n l q =
     let words = flat_map (λ m. modification_text m.kind ++ codes " ") (map modifier_at (w ∷ ws)) in
     blanks w ws (n ++ (l ++ q)) ∙ sym (append_assoc words n (l ++ q)) ∙ sym (append_assoc (words ++ n) l q)
 
-said_line : (k : Class) (m : Modifying k) (p : Place) (s : Sort) (ms : List Spoken) (n : Called) (ws : List Written) (qs : List Qubit) → line_of (Maker (Says p k s) ∷ (saying ms ++ gate_parts n ws qs)) ≡ Some (record { place = p; statement = statement.Gate (the_gate (record { place = p; class = k; sort = s } ∷ ms) n ws qs) })
+said_line : (k : Class) (m : Modifying k) (p : Place) (s : Sort) (ms : List Word) (n : Called) (ws : List Written) (qs : List Qubit) → line_of (Maker (Says p k s) ∷ (saying ms ++ gate_parts n ws qs)) ≡ Some (record { place = p; statement = statement.Gate (the_gate (record { place = p; class = k; sort = s } ∷ ms) n ws qs) })
 said_line k m p s ms n ws qs = rw (m.means s (saying ms ++ gate_parts n ws qs) (Maker (Says p k s) ∷ (saying ms ++ gate_parts n ws qs)), gate_means (record { place = p; class = k; sort = s } ∷ ms) n ws qs) refl
 
-said_placed : (k : Class) (m : Modifying k) (p : Place) (s : Sort) (ms : List Spoken) (n : Called) (ws : List Written) (qs : List Qubit) → line_of (map bare_part (Maker (Says p k s) ∷ (saying ms ++ gate_parts n ws qs))) ≡ Some (record { place = origin; statement = statement.Gate (bare_gate (the_gate (record { place = p; class = k; sort = s } ∷ ms) n ws qs)) })
+said_placed : (k : Class) (m : Modifying k) (p : Place) (s : Sort) (ms : List Word) (n : Called) (ws : List Written) (qs : List Qubit) → line_of (map bare_part (Maker (Says p k s) ∷ (saying ms ++ gate_parts n ws qs))) ≡ Some (record { place = origin; statement = statement.Gate (bare_gate (the_gate (record { place = p; class = k; sort = s } ∷ ms) n ws qs)) })
 said_placed k m p s ms n ws qs =
-    ap (λ ps. line_of (Maker (Says origin k s) ∷ ps)) (placed_parts ms n ws qs) ∙ said_line k m origin s (map bare_spoken ms) (bare_name n) (map bare_written ws) (map bare_qubit qs)
+    ap (λ ps. line_of (Maker (Says origin k s) ∷ ps)) (placed_parts ms n ws qs) ∙ said_line k m origin s (map bare_word ms) (bare_name n) (map bare_written ws) (map bare_qubit qs)
     ∙ ap (λ g. Some (record { place = origin; statement = statement.Gate g })) (placed_gate (record { place = p; class = k; sort = s } ∷ ms) n ws qs)
 
 word_again : (c : Context) (k : Class) (n : ℕ) (t : Token) (ts : List Token) (os : List Event) → Modifying k → AreFit c ts → Head k (modified n) t ts os → Reread lines c (Seq (One k) (modified n)) t os
@@ -599,14 +510,14 @@ word_again c k n t ts os m f h =
     let w = spoken k t in
     let x = m.word t.sort h.accepted in
     word_then lines c k (modified n) t os (record { place = t.place; statement = statement.Gate (the_gate (w ∷ g.said) g.name g.written g.qubits) })
-    (spoken_part w ∷ (saying g.said ++ gate_parts g.name g.written g.qubits)) (h.makes ∙ ap₂ (λ x y. x ++ y) (m.says t) g.makes) (said_line k m t.place t.sort g.said g.name g.written g.qubits) (said_placed k m t.place t.sort g.said g.name g.written g.qubits)
+    (word_part w ∷ (saying g.said ++ gate_parts g.name g.written g.qubits)) (h.makes ∙ ap₂ (λ x y. x ++ y) (m.says t) g.makes) (said_line k m t.place t.sort g.said g.name g.written g.qubits) (said_placed k m t.place t.sort g.said g.name g.written g.qubits)
     (word_text w) (said_text g.said ++ (blank g.name.text ++ behind_text c g.written g.qubits)) _
-    (Maker (Says origin k t.sort) ∷ (saying (map bare_spoken g.said) ++ gate_parts (bare_name g.name) (map again_of g.written) (map bare_qubit g.qubits)))
+    (Maker (Says origin k t.sort) ∷ (saying (map bare_word g.said) ++ gate_parts (bare_name g.name) (map again_of g.written) (map bare_qubit g.qubits)))
     x.is_token (x.same (outer c)) h.accepted (λ us. m.small (tok (outer c) kind.Name (word_text w)) us)
     g.chunk
-    (ap (λ y. y ++ parts_events (saying (map bare_spoken g.said) ++ gate_parts (bare_name g.name) (map again_of g.written) (map bare_qubit g.qubits))) (m.says (tok (outer c) kind.Name (word_text w)) ∙ ap (λ z. Makes (Says origin k z) ∷ []) (x.same (outer c))))
+    (ap (λ y. y ++ parts_events (saying (map bare_word g.said) ++ gate_parts (bare_name g.name) (map again_of g.written) (map bare_qubit g.qubits))) (m.says (tok (outer c) kind.Name (word_text w)) ∙ ap (λ z. Makes (Says origin k z) ∷ []) (x.same (outer c))))
     (modified_text w g.said g.name.text (listed (formula_texts c.parameters (map formula_of g.written))) (flat_map (λ q. codes " " ++ qubit_text q) g.qubits))
-    (said_line k m origin t.sort (map bare_spoken g.said) (bare_name g.name) (map again_of g.written) (map bare_qubit g.qubits) ∙ ap (λ y. Some (record { place = origin; statement = statement.Gate y })) (bare_same (w ∷ g.said) g.name g.written g.qubits))
+    (said_line k m origin t.sort (map bare_word g.said) (bare_name g.name) (map again_of g.written) (map bare_qubit g.qubits) ∙ ap (λ y. Some (record { place = origin; statement = statement.Gate y })) (bare_same (w ∷ g.said) g.name g.written g.qubits))
 
 -- ---- gates
 

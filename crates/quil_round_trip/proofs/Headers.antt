@@ -19,7 +19,8 @@ use Rattle.quil_grammar.specs.declared.class.Class.{Class}
 use Rattle.quil_grammar.specs.declared.class.Class.TheVariants as class
 use Rattle.quil_grammar.specs.Sort.{is_sort, is_name, word_sort}
 use Rattle.quil_grammar.specs.Token.{Token, Context}
-use Rattle.quil_grammar.specs.Grammar.{quil, tables, accepts, name_at, Name, Event}
+use Rattle.quil_grammar.specs.Grammar.{quil, accepts, name_at, Name, Event}
+use Rattle.quil_grammar.specs.Tables.{tables}
 use Rattle.quil_grammar.specs.Grammar.Piece.{Says, Names, Takes}
 use Rattle.quil_grammar.specs.Grammar.Event.{Makes}
 use Rattle.quil_grammar.specs.Parts.{Part, part_events, parts_events}
@@ -28,6 +29,7 @@ use Rattle.quil_grammar.specs.Statements.{maybe, formals, matrix_form, any_form,
 use Rattle.quil_grammar.proofs.Sorts.{same_sort}
 use Rattle.quil_round_trip.specs.Unplaced.{origin, bare_name, bare_form}
 use Rattle.quil_statement.specs.Meaning.{taken_of, name_of, gate_form}
+use Rattle.quil_statement.proofs.Sequences.{parts_append}
 use Rattle.quil_round_trip.proofs.Inversion.{Chain, one, seq, empty, many}
 use Rattle.quil_round_trip.proofs.Words.{Fits, AreFit, sort_class}
 use Rattle.quil_round_trip.proofs.Values.{name_class}
@@ -296,10 +298,6 @@ names_parts xs = map (λ a. Maker (Names (called a))) xs
 abbrev names_bare : {c : Context} → List (Copied c class.Named) → List Part
 names_bare xs = map (λ a. Maker (Names (bare_name (called a)))) xs
 
-events_append : (ps qs : List Part) → parts_events (ps ++ qs) ≡ parts_events ps ++ parts_events qs
-events_append [] qs = refl
-events_append (p ∷ ps) qs = ap (λ xs. part_events p ++ xs) (events_append ps qs) ∙ sym (append_assoc (part_events p) (parts_events ps) (parts_events qs))
-
 -- parameters and then names, told apart
 untaken : {c : Context} (xs : List (Copied c class.Named)) → filter_map taken_of (names_parts xs) ≡ []
 untaken [] = refl
@@ -424,7 +422,7 @@ circuit_header_again c t ts os f r =
     (item.DefCircuit (record { place = t.place; name = name; parameters = map (λ x. called x) p.list; qubits = map (λ x. called x) q.0; body = [] }))
     (Maker (Says t.place class.DefCircuit t.sort) ∷ Maker (Names name) ∷ (takes_parts p.list ++ names_parts q.0))
     (h.makes ∙ ap (λ xs. Makes (Says t.place class.DefCircuit t.sort) ∷ xs)
-    (a.makes ∙ ap₂ (λ u v. u ++ v) n.makes (b.makes ∙ ap₂ (λ u v. u ++ v) p.makes (d.makes ∙ ap₂ (λ u v. u ++ v) q.1 e.makes ∙ append-nil (parts_events (names_parts q.0))) ∙ sym (events_append (takes_parts p.list) (names_parts q.0)))))
+    (a.makes ∙ ap₂ (λ u v. u ++ v) n.makes (b.makes ∙ ap₂ (λ u v. u ++ v) p.makes (d.makes ∙ ap₂ (λ u v. u ++ v) q.1 e.makes ∙ append-nil (parts_events (names_parts q.0))) ∙ sym (parts_append (takes_parts p.list) (names_parts q.0)))))
     (ap₂ (λ x y. Some (item.DefCircuit (record { place = t.place; name = name; parameters = x; qubits = y; body = [] }))) (both_taken p.list q.0) (both_named p.list q.0))
     (ap₂ (λ x y. Some (item.DefCircuit (record { place = origin; name = bare_name name; parameters = x; qubits = y; body = [] })))
     (ap (λ ps. filter_map taken_of ps) (both_placed p.list q.0) ∙ both_taken_bare p.list q.0) (ap (λ ps. filter_map name_of ps) (both_placed p.list q.0) ∙ both_named_bare p.list q.0))
@@ -432,6 +430,6 @@ circuit_header_again c t ts os f r =
     (Maker (Says origin class.DefCircuit sort.DefCircuit) ∷ Maker (Names (bare_name name)) ∷ (takes_bare p.list ++ names_bare q.0))
     (record { token = refl; one_line = refl }) (sym (same_sort t.sort sort.DefCircuit h.accepted)) h.accepted (λ us. refl)
     (behind_circuit c n.token n.fits n.accepted p.chunk (names_chunk c q.0))
-    (ap (λ xs. Makes (Says origin class.DefCircuit sort.DefCircuit) ∷ Makes (Names (bare_name name)) ∷ xs) (sym (events_append (takes_bare p.list) (names_bare q.0))))
+    (ap (λ xs. Makes (Says origin class.DefCircuit sort.DefCircuit) ∷ Makes (Names (bare_name name)) ∷ xs) (sym (parts_append (takes_bare p.list) (names_bare q.0))))
     (circuit_text_is name.text (listed (texts_of (map (λ x. called x) p.list))) (flat_map (λ x. codes " " ++ x.text) (map (λ x. called x) q.0)))
     (ap₂ (λ x y. Some (item.DefCircuit (record { place = origin; name = bare_name name; parameters = x; qubits = y; body = [] }))) (both_taken_bare p.list q.0) (both_named_bare p.list q.0))

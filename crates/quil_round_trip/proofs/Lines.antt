@@ -20,7 +20,8 @@ use Rattle.quil_grammar.specs.declared.class.Class.{Class}
 use Rattle.quil_grammar.specs.declared.class.Class.TheVariants as class
 use Rattle.quil_grammar.specs.Sort.{is_sort, word_sort}
 use Rattle.quil_grammar.specs.Token.{Token, Context}
-use Rattle.quil_grammar.specs.Grammar.{quil, tables, accepts, value_of, said, name_at, qubit_at, whole_of, is_too_large, Event}
+use Rattle.quil_grammar.specs.Grammar.{quil, accepts, value_of, said, name_at, qubit_at, whole_of, is_too_large, Event}
+use Rattle.quil_grammar.specs.Tables.{tables}
 use Rattle.quil_grammar.specs.Grammar.Piece.{Says, Names, Acts}
 use Rattle.quil_grammar.specs.Grammar.Event.{Makes}
 use Rattle.quil_grammar.specs.Parts.{Part, parts_events}

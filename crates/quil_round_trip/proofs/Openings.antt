@@ -12,7 +12,8 @@ use Rattle.quil_shape.specs.Outcome.Outcome.{Made}
 use Rattle.quil_shape.specs.Reads.{Reads, starts, is_barred}
 use Rattle.quil_grammar.specs.declared.class.Class.{Class}
 use Rattle.quil_grammar.specs.Token.{Token, Context}
-use Rattle.quil_grammar.specs.Grammar.{quil, tables, accepts, value_of, is_too_large, Name, Event}
+use Rattle.quil_grammar.specs.Grammar.{quil, accepts, value_of, is_too_large, Name, Event}
+use Rattle.quil_grammar.specs.Tables.{tables}
 use Rattle.quil_grammar.specs.Statements.{maybe}
 use Rattle.quil_round_trip.proofs.Words.{tok, bare, Fits, toks, toks_append, bytes_append, apart_append}
 use Rattle.quil_round_trip.proofs.Pieces.{Piece, Anything}

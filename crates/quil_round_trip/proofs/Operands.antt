@@ -3,7 +3,7 @@ use Rattle.std.proofs.Common.{◌≡◌, ℕ, ◌<◌, ◌^◌, Bool, true, fals
 use Rattle.std.specs.Prelude.{nat_lt}
 use Rattle.std.specs.List.{list_all}
 use Rattle.std.specs.Char.{is_ascii_digit}
-use Rattle.std.proofs.lemmas.Bool.{and_parts, and_from, or_left, or_right}
+use Rattle.std.proofs.lemmas.Bool.{and_parts, and_from, or_left, or_right, not-true}
 use Rattle.std.proofs.lemmas.Bool.Decides.{nat_tests}
 use Rattle.quil_lex.specs.declared.token.Kind.{Kind}
 use Rattle.quil_lex.specs.declared.token.Kind.TheVariants as kind
@@ -33,7 +33,8 @@ use Rattle.quil_tree.specs.Printed.{address_text, enclosed, expression_text, fir
 use Rattle.quil_tree.proofs.Postfix.{trees_of_postfix}
 use Rattle.quil_grammar.specs.declared.class.Class.TheVariants as class
 use Rattle.quil_grammar.specs.Token.{Token, Context}
-use Rattle.quil_grammar.specs.Grammar.{quil, tables, accepts, is_digit, is_operator_next, is_whole_number, opens_rule, opens_primary, sign_of, value_behind, Sum, OperandSum, Unary, Event}
+use Rattle.quil_grammar.specs.Grammar.{quil, accepts, is_digit, is_operator_next, is_whole_number, sign_of, value_behind, Sum, OperandSum, Unary, Event}
+use Rattle.quil_grammar.specs.Tables.{tables, opens_rule, opens_primary}
 use Rattle.quil_grammar.specs.Grammar.Event.{Stands}
 use Rattle.quil_grammar.specs.Grammar.Around.{Signed, Parenthesized}
 use Rattle.quil_grammar.specs.Written.{Written, events, formula_of, meaning, operand_of, start}
@@ -42,7 +43,7 @@ use Rattle.quil_grammar.specs.Frames.{IsOperandRead}
 use Rattle.quil_grammar.specs.Literals.{is_plain_next, is_signed_next}
 use Rattle.quil_grammar.specs.Statements.{address, operand}
 use Rattle.quil_grammar.proofs.Atoms.{number_read}
-use Rattle.quil_grammar.proofs.Literals.{plain_read, signed_read, formula_read}
+use Rattle.quil_grammar.proofs.Literals.{plain_read, signed_read, formula_read, unary_number}
 use Rattle.quil_grammar.proofs.Verdicts.{decided}
 use Rattle.quil_grammar.proofs.Writings.{same_written}
 use Rattle.quil_round_trip.specs.Unplaced.{origin, bare_step, bare_formula, bare_operand}
@@ -80,16 +81,8 @@ same_reading ts (u ∷ us) os ps r q =
     let same : Refused (u ∷ us) ≡ Read os = a.is_only (Refused (u ∷ us)) b.is_true in
     absurd (cc)
 
-number_unary : (t : Token) (us : List Token) → accepts class.Number t.sort ≡ true → is_operator_next us ≡ false → Advances quil tables (Rule (Unary false)) (t ∷ us) us (Stands t.place (atom.Number t.text) ∷ [])
-number_unary t us a e =
-    as_unary false t us us _ (number_opens false t.sort a) (no_operator us e).caret (number_read false (t ∷ us) us t t.place t.text refl a refl refl)
-
 unary_sum : (ts us : List Token) (os : List Event) → is_operator_next us ≡ false → Advances quil tables (Rule (Unary false)) ts us os → Advances quil tables (Rule (Sum false)) ts us os
 unary_sum ts us os e r = let n = no_operator us e in as_sum false ts us os n.term (as_product false ts us os n.factor r)
-
-not_true : (b : Bool) → not b ≡ true → b ≡ false
-not_true true e = absurd (cc)
-not_true false e = refl
 
 -- a whole number that is all that comes next is all of the expression
 plain_is : (ts : List Token) (w : Written) → Advances quil tables (Rule (Sum false)) ts [] (events w) → is_plain_next ts ≡ true → (p : Place) × (x : List ℕ) × (list_all is_digit x ≡ true) × (w ≡ Alone p (atom.Number x))
@@ -97,8 +90,8 @@ plain_is [] w r h = absurd (cc)
 plain_is (t ∷ us) w r h =
     let both = and_parts (is_whole_number t) (not (is_operator_next us)) h in
     let number = and_parts (accepts class.Number t.sort) (list_all is_digit t.text) both.0 in
-    let none = not_true (is_operator_next us) both.1 in
-    (t.place, t.text, number.1, same_written w (Alone t.place (atom.Number t.text)) (same_reading (t ∷ us) us (events w) _ r (unary_sum (t ∷ us) us _ none (number_unary t us number.0 none))))
+    let none = not-true (is_operator_next us) both.1 in
+    (t.place, t.text, number.1, same_written w (Alone t.place (atom.Number t.text)) (same_reading (t ∷ us) us (events w) _ r (unary_sum (t ∷ us) us _ none (unary_number t us number.0 none))))
 
 signed_is : (ts : List Token) (w : Written) → Advances quil tables (Rule (Sum false)) ts [] (events w) → is_signed_next ts ≡ true → (p : Place) × (s : Sign) × (v : Written) × (w ≡ Within (Signed p s) v)
 signed_is [] w r h = absurd (cc)
@@ -107,9 +100,9 @@ signed_is (t ∷ u ∷ us) w r h =
     let first = and_parts (accepts class.Sign t.sort) (is_plain_next (u ∷ us)) h in
     let both = and_parts (is_whole_number u) (not (is_operator_next us)) first.1 in
     let number = and_parts (accepts class.Number u.sort) (list_all is_digit u.text) both.0 in
-    let none = not_true (is_operator_next us) both.1 in
+    let none = not-true (is_operator_next us) both.1 in
     let v : Written = Alone u.place (atom.Number u.text) in
-    (t.place, sign_of t.sort, v, same_written w (Within (Signed t.place (sign_of t.sort)) v) (same_reading (t ∷ u ∷ us) us (events w) _ r (unary_sum (t ∷ u ∷ us) us _ none (signs false t (u ∷ us) us _ first.0 (number_unary u us number.0 none)))))
+    (t.place, sign_of t.sort, v, same_written w (Within (Signed t.place (sign_of t.sort)) v) (same_reading (t ∷ u ∷ us) us (events w) _ r (unary_sum (t ∷ u ∷ us) us _ none (signs false t (u ∷ us) us _ first.0 (unary_number u us number.0 none)))))
 
 false_unless : (b : Bool) → (b ≡ true → ⊥) → b ≡ false
 false_unless true h = absurd (h refl)

@@ -19,7 +19,8 @@ use Rattle.quil_tree.specs.declared.statement.Reference.{Reference}
 use Rattle.quil_tree.specs.declared.statement.Operand.TheVariants as operand
 use Rattle.quil_grammar.specs.declared.class.Class.TheVariants as class
 use Rattle.quil_grammar.specs.Token.{Token, Context}
-use Rattle.quil_grammar.specs.Grammar.{quil, tables, index, is_digit, whole_of, Sum, OperandSum, Event}
+use Rattle.quil_grammar.specs.Grammar.{quil, index, is_digit, whole_of, Sum, OperandSum, Event}
+use Rattle.quil_grammar.specs.Tables.{tables}
 use Rattle.quil_grammar.specs.Grammar.Event.{Region, Index}
 use Rattle.quil_grammar.specs.Grammar.Around.{Signed, Parenthesized, Argument}
 use Rattle.quil_grammar.specs.Statements.{address, operand as operand_shape}

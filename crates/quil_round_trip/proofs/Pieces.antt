@@ -8,7 +8,8 @@ use Rattle.quil_shape.specs.Outcome.Outcome.{Made}
 use Rattle.quil_shape.specs.Reads.{Reads}
 use Rattle.quil_grammar.specs.declared.class.Class.{Class}
 use Rattle.quil_grammar.specs.Token.{Token, Context}
-use Rattle.quil_grammar.specs.Grammar.{quil, tables, Name, Event, is_operator_next}
+use Rattle.quil_grammar.specs.Grammar.{quil, Name, Event, is_operator_next}
+use Rattle.quil_grammar.specs.Tables.{tables}
 use Rattle.quil_round_trip.proofs.Words.{tok, toks}
 
 -- The words of a text (the first one with a blank before it or without), told from one another; before tokens of which `Behind`

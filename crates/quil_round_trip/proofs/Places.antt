@@ -14,7 +14,8 @@ use Rattle.quil_shape.proofs.Verdicts.{some_outcome, verdict_only}
 use Rattle.quil_grammar.specs.declared.class.Class.{Class}
 use Rattle.quil_grammar.specs.declared.class.Class.TheVariants as class
 use Rattle.quil_grammar.specs.Token.{Token}
-use Rattle.quil_grammar.specs.Grammar.{quil, tables, value_of, is_too_large, is_operator_next, is_wide_whole_next, is_whole_number, is_wide, body_of, Name, Event}
+use Rattle.quil_grammar.specs.Grammar.{quil, value_of, is_too_large, is_operator_next, is_wide_whole_next, is_whole_number, is_wide, body_of, Name, Event}
+use Rattle.quil_grammar.specs.Tables.{tables}
 use Rattle.quil_grammar.specs.Grammar.{Sum, Product, Unary, Power, Primary, OperandSum, OperandProduct, OperandUnary, OperandPower, OperandPrimary}
 use Rattle.quil_grammar.specs.Grammar.Event.{Stands, Region, Index, Between, Joined, Opens, Closes, Makes}
 use Rattle.quil_grammar.specs.Grammar.Piece.{Says, Names, Takes, Acts, Counts, Keeps}

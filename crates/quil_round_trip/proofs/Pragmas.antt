@@ -19,7 +19,8 @@ use Rattle.quil_grammar.specs.declared.sort.Sort.TheVariants as sort
 use Rattle.quil_grammar.specs.declared.class.Class.TheVariants as class
 use Rattle.quil_grammar.specs.Sort.{word_sort}
 use Rattle.quil_grammar.specs.Token.{Token, Context}
-use Rattle.quil_grammar.specs.Grammar.{quil, tables, accepts, name_at, Event}
+use Rattle.quil_grammar.specs.Grammar.{quil, accepts, name_at, Event}
+use Rattle.quil_grammar.specs.Tables.{tables}
 use Rattle.quil_grammar.specs.Grammar.Piece.{Says, Names, Keeps}
 use Rattle.quil_grammar.specs.Grammar.Event.{Makes}
 use Rattle.quil_grammar.specs.Parts.{Part, parts_events}
@@ -28,20 +29,14 @@ use Rattle.quil_grammar.specs.Statements.{pragma}
 use Rattle.quil_grammar.proofs.Sorts.{same_sort}
 use Rattle.quil_round_trip.specs.Unplaced.{origin, bare_name}
 use Rattle.quil_statement.specs.Meaning.{kept_of, line_of}
+use Rattle.quil_statement.specs.Loops.{keeping}
+use Rattle.quil_statement.proofs.Said.{kept as all_kept}
 use Rattle.quil_round_trip.proofs.Inversion.{Chain, many}
 use Rattle.quil_round_trip.proofs.Words.{tok, AreFit, toks}
 use Rattle.quil_round_trip.proofs.Chunks.{Chunk, AtEnd, blank, first, both}
 use Rattle.quil_round_trip.proofs.Bare.{bare_part}
 use Rattle.quil_round_trip.proofs.Reread.{Reread, head, word_then}
 use Rattle.quil_round_trip.proofs.Lines.{lines}
-
--- tokens that are kept as they were written
-abbrev pub keeping : List (List ℕ) → List Part
-keeping xs = map (λ x. Maker (Keeps x)) xs
-
-kept_are : (xs : List (List ℕ)) → filter_map kept_of (keeping xs) ≡ xs
-kept_are [] = refl
-kept_are (x ∷ xs) = ap (λ ys. x ∷ ys) (kept_are xs)
 
 -- ---- marks
 
@@ -165,7 +160,7 @@ kept c before h (Chain.link r rs) f =
     }
 
 pragma_line : (p : _) (n : Called) (xs : List (List ℕ)) (s : _) → line_of (Maker (Says p class.Pragma s) ∷ Maker (Names n) ∷ keeping xs) ≡ Some (record { place = p; statement = statement.Pragma n xs })
-pragma_line p n xs s = ap (λ ys. Some (record { place = p; statement = statement.Pragma n ys })) (kept_are xs)
+pragma_line p n xs s = ap (λ ys. Some (record { place = p; statement = statement.Pragma n ys })) (all_kept xs)
 
 keeping_bare : (xs : List (List ℕ)) → map bare_part (keeping xs) ≡ keeping xs
 keeping_bare [] = refl

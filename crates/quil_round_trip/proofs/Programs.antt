@@ -26,9 +26,11 @@ use Rattle.quil_tree.specs.Printed.{with_commas, formula_texts, body_line, state
 use Rattle.quil_grammar.specs.declared.class.Class.{Class}
 use Rattle.quil_grammar.specs.declared.fault.ReadFault.{ReadFault}
 use Rattle.quil_grammar.specs.Token.{Token, Context, no_context, bad_token, line_tokens, span_tokens}
-use Rattle.quil_grammar.specs.Grammar.{quil, tables, Name, Event}
+use Rattle.quil_grammar.specs.Grammar.{quil, Name, Event}
+use Rattle.quil_grammar.specs.Tables.{tables}
 use Rattle.quil_grammar.specs.Parts.{Part, parts_events}
 use Rattle.quil_grammar.specs.Statements.{top_level, statement, matrix_row, permutation_row, nowhere}
+use Rattle.quil_grammar.proofs.Decided.{decided_top, decided_statement, decided_row, decided_numbers}
 use Rattle.quil_statement.specs.Meaning.{item_of, line_of, row_of, numbers_of}
 use Rattle.quil_round_trip.specs.Unplaced.{bare_item, bare_row, bare_form, bare_line, bare_gate_definition, bare_circuit_definition}
 use Rattle.quil_parse.specs.Program.{wants_body, row_shape, line_shape, line_context, body_context, with_row, with_statement, with_line, added, with_parts, Says, is_empty, has_no_lexeme, ends_well, line_end, Goes}
@@ -40,7 +42,7 @@ use Rattle.quil_round_trip.proofs.Rows.{rows, number_rows}
 use Rattle.quil_round_trip.proofs.Fresh.{fresh}
 use Rattle.quil_round_trip.proofs.Bodies.{rows_so_far, total, AreWhole, OthersWhole, all_whole, fresh_text, same_wants, same_shape, same_context}
 use Rattle.quil_round_trip.proofs.Places.{NoPlace}
-use Rattle.quil_round_trip.proofs.Ends.{read_tokens, read_end, decided_top, decided_statement, decided_row, decided_numbers, not_nowhere, not_nothing}
+use Rattle.quil_round_trip.proofs.Ends.{read_tokens, read_end, not_nowhere, not_nothing}
 
 -- a line, as it is printed
 abbrev written : Bool → Word → List Word → WrittenLine

@@ -11,7 +11,8 @@ use Rattle.quil_grammar.specs.declared.class.Class.{Class}
 use Rattle.quil_grammar.specs.declared.class.Class.TheVariants as class
 use Rattle.quil_grammar.specs.declared.sort.Sort.{Sort}
 use Rattle.quil_grammar.specs.Token.{Token, Context}
-use Rattle.quil_grammar.specs.Grammar.{quil, tables, accepts, Name, Event}
+use Rattle.quil_grammar.specs.Grammar.{quil, accepts, Name, Event}
+use Rattle.quil_grammar.specs.Tables.{tables}
 use Rattle.quil_round_trip.proofs.Inversion.{one, seq}
 use Rattle.quil_round_trip.proofs.Words.{toks}
 use Rattle.quil_round_trip.proofs.Pieces.{Piece}

@@ -9,7 +9,8 @@ use Rattle.quil_shape.specs.Outcome.Outcome.{Made}
 use Rattle.quil_shape.specs.Reads.{Reads, starts, is_barred}
 use Rattle.quil_grammar.specs.declared.class.Class.{Class}
 use Rattle.quil_grammar.specs.Token.{Token, Context}
-use Rattle.quil_grammar.specs.Grammar.{quil, tables, accepts, value_of, is_too_large, Name, Event}
+use Rattle.quil_grammar.specs.Grammar.{quil, accepts, value_of, is_too_large, Name, Event}
+use Rattle.quil_grammar.specs.Tables.{tables}
 use Rattle.quil_grammar.specs.Parts.{Part, parts_events}
 use Rattle.quil_round_trip.proofs.Inversion.{one, seq}
 use Rattle.quil_round_trip.proofs.Words.{tok, toks, free_behind}

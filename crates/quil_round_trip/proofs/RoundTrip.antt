@@ -7,7 +7,7 @@ use Rattle.quil_lex.proofs.ReadTokens.{reading_tokens}
 use Rattle.quil_lex.proofs.Rereading.{lines_again}
 use Rattle.quil_tree.specs.declared.item.Item.{Item}
 use Rattle.quil_tree.specs.Printed.{printed}
-use Rattle.quil_grammar.specs.Answer.{most_bytes}
+use Rattle.quil_grammar.specs.declared.parse.TheConstants.{MOST_BYTES}
 use Rattle.quil_parse.proofs.Programs.{one_tree}
 use Rattle.quil_round_trip.specs.Unplaced.{bare_item, bare_tree}
 use Rattle.quil_parse.specs.Program.{Goes, IsTreeOf, beginning}
@@ -28,7 +28,7 @@ goes_from : (ls : List WrittenLine) (js : List Item) → Goes beginning [] (span
 goes_from [] js g = Goes.skips refl g
 goes_from (l ∷ ls) js g = g
 
-pub round_trip : (text : List ℕ) (tree : List Item) → IsTreeOf text tree → length (printed tree) ≤ most_bytes → (again : List Item) × IsTreeOf (printed tree) again × (bare_tree again ≡ bare_tree tree)
+pub round_trip : (text : List ℕ) (tree : List Item) → IsTreeOf text tree → length (printed tree) ≤ MOST_BYTES → (again : List Item) × IsTreeOf (printed tree) again × (bare_tree again ≡ bare_tree tree)
 round_trip text tree h short =
     let r = rebuilt (top_again declaration_again gate_header_again circuit_header_again) statement_again row_again numbers_again h.goes (reverse tree) refl (reading_tokens text h.spans h.is_reading) tt in
     let q = r.there beginning 1 [] refl in

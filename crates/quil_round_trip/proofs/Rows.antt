@@ -9,7 +9,8 @@ use Rattle.quil_tree.specs.Printed.{with_commas, expression_text, formula_texts}
 use Rattle.quil_grammar.specs.declared.class.Class.{Class}
 use Rattle.quil_grammar.specs.declared.class.Class.TheVariants as class
 use Rattle.quil_grammar.specs.Token.{Token, Context}
-use Rattle.quil_grammar.specs.Grammar.{quil, tables, Name, Sum, Event}
+use Rattle.quil_grammar.specs.Grammar.{quil, Name, Sum, Event}
+use Rattle.quil_grammar.specs.Tables.{tables}
 use Rattle.quil_grammar.specs.Grammar.Piece.{Says, Names, Takes, Acts, Counts, Keeps}
 use Rattle.quil_grammar.specs.Written.{Written, meaning, formula_of}
 use Rattle.quil_grammar.specs.Parts.{Part, part_events, parts_events}

@@ -9,7 +9,8 @@ use Rattle.quil_tree.specs.declared.place.Place.{Place}
 use Rattle.quil_tree.specs.declared.expr.Atom.{Atom}
 use Rattle.quil_tree.specs.declared.expr.Atom.TheVariants as atom
 use Rattle.quil_grammar.specs.Token.{Token, Context}
-use Rattle.quil_grammar.specs.Grammar.{quil, tables, body_of, more_terms, more_factors, whole_of, Name, Sum, Product, Unary, Power, Primary, OperandSum, OperandProduct, OperandUnary, OperandPower, OperandPrimary, Event}
+use Rattle.quil_grammar.specs.Grammar.{quil, body_of, more_terms, more_factors, whole_of, Name, Sum, Product, Unary, Power, Primary, OperandSum, OperandProduct, OperandUnary, OperandPower, OperandPrimary, Event}
+use Rattle.quil_grammar.specs.Tables.{tables}
 use Rattle.quil_grammar.specs.Grammar.Event.{Between, Joined, Closes}
 use Rattle.quil_grammar.specs.Grammar.Around.{Signed, Parenthesized, Argument}
 use Rattle.quil_grammar.specs.Statements.{address}
@@ -86,8 +87,8 @@ soundly_after refs c os (Made ps us) h k = sound_append refs c os ps h k
 soundly_after refs c os (Stuck us) h k = tt
 soundly_after refs c os (Large us) h k = tt
 
-fit_left : {s : Shape Class Event Name} {ts us : List Token} {os : List Event} (c : Context) → Reads quil tables s ts (Made os us) → AreFit c ts → AreFit c us
-fit_left {ts = ts} {us = us} c r f = let e = rest_of quil tables r in fit_rest c ts us e.before e.splits f
+pub fits_left : {s : Shape Class Event Name} {ts us : List Token} {os : List Event} (c : Context) → Reads quil tables s ts (Made os us) → AreFit c ts → AreFit c us
+fits_left {ts = ts} {us = us} c r f = let e = rest_of quil tables r in fit_rest c ts us e.before e.splits f
 
 soundly : (refs : Bool) (c : Context) {s : Shape Class Event Name} {ts : List Token} {out : Outcome Event Token} → Reads quil tables s ts out → OfExpression refs c s → AreFit c ts → Soundly refs c out
 unfolding quil tables
@@ -95,13 +96,13 @@ soundly refs c (Reads.one {c = k} {t = t} {ts = us} h l) ok f = one_sound refs c
 soundly refs c (Reads.one_large h l) ok f = tt
 soundly refs c Reads.emit ok f = (ok, tt)
 soundly refs c Reads.empty ok f = tt
-soundly refs c (Reads.seq {os = os} {out = out} r q) ok f = soundly_after refs c os out (soundly refs c r ok.0 f) (soundly refs c q ok.1 (fit_left c r f))
+soundly refs c (Reads.seq {os = os} {out = out} r q) ok f = soundly_after refs c os out (soundly refs c r ok.0 f) (soundly refs c q ok.1 (fits_left c r f))
 soundly refs c (Reads.seq_stuck r) ok f = tt
 soundly refs c (Reads.seq_large r) ok f = tt
 soundly refs c (Reads.left h r) ok f = soundly refs c r ok.0 f
 soundly refs c (Reads.right h r) ok f = soundly refs c r ok.1 f
 soundly refs c (Reads.none h) ok f = tt
-soundly refs c (Reads.more {os = os} {out = out} h r q) ok f = soundly_after refs c os out (soundly refs c r ok f) (soundly refs c q ok (fit_left c r f))
+soundly refs c (Reads.more {os = os} {out = out} h r q) ok f = soundly_after refs c os out (soundly refs c r ok f) (soundly refs c q ok (fits_left c r f))
 soundly refs c (Reads.more_stuck h r) ok f = tt
 soundly refs c (Reads.more_large h r) ok f = tt
 soundly refs c (Reads.rule {r = n} r) ok f = soundly refs c r (body_ok refs c n ok) f
@@ -132,9 +133,6 @@ sum_sound refs c ts us w r f = written_sound refs c w (soundly refs c r (λ e. e
 
 pub operand_sum_sound : (c : Context) (ts us : List Token) (w : Written) → Reads quil tables (Rule OperandSum) ts (Made (events w) us) → AreFit c ts → IsExpression false c (meaning w)
 operand_sum_sound c ts us w r f = written_sound false c w (soundly false c r (λ e. e) f)
-
-pub fits_left : {s : Shape Class Event Name} {ts us : List Token} {os : List Event} (c : Context) → Reads quil tables s ts (Made os us) → AreFit c ts → AreFit c us
-fits_left c r f = fit_left c r f
 
 -- what is read as a memory reference
 pub address_sound : (c : Context) (ts us : List Token) (os : List Event) → Reads quil tables address ts (Made os us) → AreFit c ts → AreSound true c os

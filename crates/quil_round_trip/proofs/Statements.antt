@@ -7,7 +7,8 @@ use Rattle.quil_shape.specs.Reads.{Reads}
 use Rattle.quil_grammar.specs.declared.class.Class.{Class}
 use Rattle.quil_grammar.specs.declared.class.Class.TheVariants as class
 use Rattle.quil_grammar.specs.Token.{Token, Context}
-use Rattle.quil_grammar.specs.Grammar.{quil, tables, accepts, value_of, Name, Event}
+use Rattle.quil_grammar.specs.Grammar.{quil, accepts, value_of, Name, Event}
+use Rattle.quil_grammar.specs.Tables.{tables}
 use Rattle.quil_grammar.specs.Statements.{statement, classical, control}
 use Rattle.quil_round_trip.proofs.Inversion.{one, choice}
 use Rattle.quil_round_trip.proofs.Words.{Fits, AreFit}

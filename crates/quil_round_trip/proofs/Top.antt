@@ -8,12 +8,14 @@ use Rattle.quil_tree.specs.declared.item.Item.TheVariants as item
 use Rattle.quil_grammar.specs.declared.class.Class.{Class}
 use Rattle.quil_grammar.specs.declared.class.Class.TheVariants as class
 use Rattle.quil_grammar.specs.Token.{Token, Context, no_context}
-use Rattle.quil_grammar.specs.Grammar.{quil, tables, Name, Event}
+use Rattle.quil_grammar.specs.Grammar.{quil, Name, Event}
+use Rattle.quil_grammar.specs.Tables.{tables}
 use Rattle.quil_grammar.specs.Grammar.Piece.{Says}
 use Rattle.quil_grammar.specs.Parts.{Part}
 use Rattle.quil_grammar.specs.Parts.Part.{Made as Maker}
 use Rattle.quil_grammar.specs.Statements.{statement, declaration, gate_header, circuit_header, top_level}
 use Rattle.quil_statement.specs.Meaning.{line_of, plain, item_of}
+use Rattle.quil_statement.proofs.Choices.{plain_item}
 use Rattle.quil_round_trip.proofs.Words.{AreFit}
 use Rattle.quil_round_trip.proofs.Bare.{bare_part}
 use Rattle.quil_round_trip.proofs.Reread.{Reread}
@@ -23,12 +25,6 @@ use Rattle.quil_round_trip.proofs.Lines.{lines}
 use Rattle.quil_round_trip.proofs.Statements.{either_again, statement_reread}
 
 -- what means a statement means it at the top level: no statement begins with the word of a declaration or a definition
-line_item : (ps : List Part) (l : Line) → line_of ps ≡ Some l → item_of ps ≡ Some (item.Plain l)
-line_item (Maker (Says p class.Declare s) ∷ ps) l e = absurd (cc)
-line_item (Maker (Says p class.DefGate s) ∷ ps) l e = absurd (cc)
-line_item (Maker (Says p class.DefCircuit s) ∷ ps) l e = absurd (cc)
-line_item ps l e = ap plain e
-
 pub item_reread : (c : Context) (s : Shape Class Event Name) (t : Token) (os : List Event) → Reread lines c s t os → Reread items c s t os
 item_reread c s t os r =
     let a = r.again in
@@ -36,8 +32,8 @@ item_reread c s t os r =
       thing = item.Plain r.thing;
       parts = r.parts;
       makes = r.makes;
-      means = line_item r.parts r.thing r.means;
-      means_bare = line_item (map bare_part r.parts) (lines.bare r.thing) r.means_bare;
+      means = plain_item r.parts r.thing r.means;
+      means_bare = plain_item (map bare_part r.parts) (lines.bare r.thing) r.means_bare;
       again =
           record {
             kind = a.kind;
@@ -47,7 +43,7 @@ item_reread c s t os r =
             text = a.text;
             parts = a.parts;
             reads = a.reads;
-            means = line_item a.parts (lines.bare r.thing) a.means;
+            means = plain_item a.parts (lines.bare r.thing) a.means;
           };
       same = r.same;
     }

@@ -27,17 +27,20 @@ use Rattle.quil_grammar.specs.declared.fault.ReadFault.TheVariants as fault
 use Rattle.quil_grammar.specs.declared.sort.Sort.TheVariants as sort
 use Rattle.quil_grammar.specs.Sort.{is_sort}
 use Rattle.quil_grammar.specs.Token.{Token, Context, no_context, line_tokens, span_tokens, span_end}
-use Rattle.quil_grammar.specs.Grammar.{quil, tables, Name, Event}
-use Rattle.quil_grammar.specs.Answer.{most_bytes, bad_or_unexpected}
+use Rattle.quil_grammar.specs.Grammar.{quil, Name, Event}
+use Rattle.quil_grammar.specs.Tables.{tables}
+use Rattle.quil_grammar.specs.Answer.{bad_or_unexpected}
+use Rattle.quil_grammar.specs.declared.parse.TheConstants.{MOST_BYTES}
 use Rattle.quil_grammar.specs.Parts.{Part, parts_events}
 use Rattle.quil_grammar.specs.Statements.{top_level, statement, matrix_row, permutation_row, nowhere, nothing}
+use Rattle.quil_grammar.proofs.Decided.{decided_top, decided_statement, decided_row, decided_numbers, decided_nowhere, decided_nothing}
 use Rattle.quil_parse.specs.Program.{Goes, IsTreeOf, IsFaultOf, wants_body, row_shape, line_shape, line_context, body_context, with_row, with_parts, with_statement, added, line_fault, too_large, is_left_out, is_empty, line_end, beginning}
 use Rattle.quil_parse.proofs.Lines.{line_decided}
 use Rattle.quil_parse.proofs.Programs.{refused}
 use Rattle.quil_round_trip.proofs.Places.{reads_whole}
 use Rattle.quil_round_trip.proofs.Reread.{Sense}
 use Rattle.quil_round_trip.proofs.Again.{LineFits, IsReread, line_fits}
-use Rattle.quil_round_trip.proofs.Ends.{read_end, read_tokens, decided_top, decided_statement, decided_row, decided_numbers, decided_nowhere, decided_nothing, not_nowhere, not_nothing}
+use Rattle.quil_round_trip.proofs.Ends.{read_end, read_tokens, not_nowhere, not_nothing}
 use Rattle.quil_round_trip.proofs.Items.{items}
 use Rattle.quil_round_trip.proofs.Lines.{lines}
 use Rattle.quil_round_trip.proofs.Rows.{rows, number_rows, row_again, numbers_again}
@@ -190,16 +193,16 @@ comes p is (s ∷ ss) t = first_comes p is s ss t.0 (λ q js. comes q js ss t.1)
 abbrev HasTreeOrFault : List ℕ → Type 0
 HasTreeOrFault text = ((tree : List Item) × IsTreeOf text tree) ⊎ ((f : ReadFault) × (f ≢ fault.OutOfMemory) × IsFaultOf text f)
 
-answers : (text : List ℕ) (spans : List Span) (r : Result (List Item) ReadFault) → length text ≤ most_bytes → IsReading text spans → Goes beginning [] spans r → IsTold r → HasTreeOrFault text
+answers : (text : List ℕ) (spans : List Span) (r : Result (List Item) ReadFault) → length text ≤ MOST_BYTES → IsReading text spans → Goes beginning [] spans r → IsTold r → HasTreeOrFault text
 answers text spans (Ok is) short reading g t = inl (reverse is, record { is_short = short; spans = spans; is_reading = reading; goes = subst (λ xs. Goes beginning [] spans (Ok xs)) (sym (reverse-reverse is)) g })
 answers text spans (Err f) short reading g t = inr (f, t, refused text (Err f) (inr (record { is_short = short; spans = spans; is_reading = reading; goes = g })))
 
 pub tree_or_fault : (text : List ℕ) → ((tree : List Item) × IsTreeOf text tree) ⊎ ((f : ReadFault) × (f ≢ fault.OutOfMemory) × IsFaultOf text f)
-tree_or_fault text = by (nat_lt most_bytes (length text)) refl
+tree_or_fault text = by (nat_lt MOST_BYTES (length text)) refl
   where
-    by : (b : Bool) → nat_lt most_bytes (length text) ≡ b → HasTreeOrFault text
-    by true e = inr (fault.TextTooLong (length text), λ x. absurd (cc), (ltb-true most_bytes (length text) e, refl))
+    by : (b : Bool) → nat_lt MOST_BYTES (length text) ≡ b → HasTreeOrFault text
+    by true e = inr (fault.TextTooLong (length text), λ x. absurd (cc), (ltb-true MOST_BYTES (length text) e, refl))
     by false e =
         let reading = each_text text in
         let c = comes beginning [] reading.0 (reading_tokens text reading.0 reading.1) in
-        answers text reading.0 c.result (ltb-false most_bytes (length text) e) reading.1 c.goes c.is_told
+        answers text reading.0 c.result (ltb-false MOST_BYTES (length text) e) reading.1 c.goes c.is_told

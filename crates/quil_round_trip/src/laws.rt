@@ -3,7 +3,7 @@
 ghost use Rattle.std.specs.Prelude.{◌≡◌, ◌≢◌, ◌≤◌, ◌⊎◌, ℕ, List, length};
 ghost use Rattle.quil_tree.specs.declared.item.Item.{Item};
 ghost use Rattle.quil_tree.specs.Printed.{printed};
-ghost use Rattle.quil_grammar.specs.Answer.{most_bytes};
+ghost use Rattle.quil_grammar.specs.declared.parse.TheConstants.{MOST_BYTES};
 ghost use Rattle.quil_grammar.specs.declared.fault.ReadFault as fault;
 ghost use Rattle.quil_grammar.specs.declared.fault.ReadFault.TheVariants.{OutOfMemory};
 ghost use Rattle.quil_parse.specs.Program.{IsTreeOf, IsFaultOf};
@@ -12,7 +12,7 @@ ghost use Rattle.quil_round_trip.specs.Unplaced.{bare_tree};
 /// What `print` writes of a tree that `parse` gave is, if it isn't too long, a text of a tree, and of the same one up to places.
 /// So `parse` gives that tree again, or memory runs out.
 pub fn printed_is_read_again()
-    ensures again { (text : List ℕ) (tree : List Item) → IsTreeOf text tree → length (printed tree) ≤ most_bytes → ((again : List Item) × IsTreeOf (printed tree) again × (bare_tree again ≡ bare_tree tree)) }
+    ensures again { (text : List ℕ) (tree : List Item) → IsTreeOf text tree → length (printed tree) ≤ MOST_BYTES → ((again : List Item) × IsTreeOf (printed tree) again × (bare_tree again ≡ bare_tree tree)) }
     ensures only { (text : List ℕ) (tree again : List Item) → IsTreeOf text tree → IsTreeOf (printed tree) again → bare_tree again ≡ bare_tree tree }
 {}
 

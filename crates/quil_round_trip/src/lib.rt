@@ -4,6 +4,3 @@
 mod laws;
 
 pub use laws::{printed_is_read_again, tree_or_fault};
-
-#[cfg(test)]
-mod tests;
