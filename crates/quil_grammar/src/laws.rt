@@ -29,17 +29,6 @@ pub fn one_token_decides()
 {}
 
 /// One token decides each choice in the statements of Quil, in its definitions and in their rows.
-#[tactic(
-    auto,
-    using(
-        crate::proofs::Decided::decided_top,
-        crate::proofs::Decided::decided_statement,
-        crate::proofs::Decided::decided_row,
-        crate::proofs::Decided::decided_numbers,
-        crate::proofs::Decided::decided_nowhere,
-        crate::proofs::Decided::decided_nothing
-    )
-)]
 pub fn one_token_decides_statements()
     ensures top_level { IsTrue (is_decided_by_one_token quil tables top_level) }
     ensures statement { IsTrue (is_decided_by_one_token quil tables statement) }

@@ -24,16 +24,27 @@ pub enum Kind {
 /// A token of one byte.
 #[derive(Clone, Copy, Debug, PartialEq, Eq)]
 pub enum Mark {
+    /// `(`
     LeftParenthesis,
+    /// `)`
     RightParenthesis,
+    /// `[`
     LeftBracket,
+    /// `]`
     RightBracket,
+    /// `,`
     Comma,
+    /// `:`
     Colon,
+    /// `+`
     Plus,
+    /// `-`
     Minus,
+    /// `*`
     Star,
+    /// `/`
     Slash,
+    /// `^`
     Caret,
 }
 
