@@ -116,7 +116,7 @@ mark_in mark.Slash c x = refl
 mark_in mark.Caret c x = refl
 
 pub class_in : (k : Kind) (c : Context) (x : List ℕ) → sort_class (sort_in c (sort_of k x) x) ≡ kind_class k
-class_in kind.Name c x = class_word _ (word_in c (word_sort x) x (word_is x))
+class_in kind.Name c x = class_word (sort_in c (word_sort x) x) (word_in c (word_sort x) x (word_is x))
 class_in kind.Whole c x = whole_in (list_all (λ b. b == 48) x) c x
 class_in kind.Decimal c x = refl
 class_in kind.Imaginary c x = refl
