@@ -1,5 +1,5 @@
 -- Reading on where an operand is to be read.
-use Rattle.std.proofs.Common.{◌≡◌, ℕ, ◌||◌, Bool, true, false, List, [], ◌∷◌, ◌++◌, refl, sym, ◌∙◌, ap, subst}
+use Rattle.std.proofs.Common.{◌≡◌, ℕ, Bool, true, false, List, [], ◌∷◌, ◌++◌, refl, sym, ◌∙◌, ap, subst}
 use Rattle.quil_shape.specs.Shape.{Shape}
 use Rattle.quil_shape.specs.Shape.Shape.{One, Emit, Seq, Rule}
 use Rattle.quil_shape.specs.Reads.{Advances, Halts, GoesOn, starts, is_barred}

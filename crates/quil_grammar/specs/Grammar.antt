@@ -1,6 +1,6 @@
 -- The places for a token in expressions and lines, and the grammar of expressions. `Statements.antt` has the forms of lines.
 -- Loosest first: `+` and `-`, `*` and `/`, a sign, `^`, and then what stands alone or in parentheses.
-use Rattle.std.specs.Prelude.{if◌then◌else◌, ◌≡◌, ℕ, ◌+◌, ◌-◌, ◌*◌, ◌^◌, Bool, true, false, not, ◌&&◌, ◌||◌, nat_lt, List, [], ◌∷◌, Some, slice_get, refl}
+use Rattle.std.specs.Prelude.{if◌then◌else◌, ℕ, ◌+◌, ◌-◌, ◌*◌, ◌^◌, Bool, true, false, not, ◌&&◌, ◌||◌, nat_lt, List, [], ◌∷◌}
 use Rattle.std.specs.List.{list_all}
 use Rattle.quil_shape.specs.Shape.{Shape, Grammar}
 use Rattle.quil_shape.specs.Shape.Shape.{One, Emit, Empty, Seq, Or, Many, Rule}
