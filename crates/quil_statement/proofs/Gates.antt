@@ -5,7 +5,7 @@ use Rattle.std.proofs.lemmas.List.Elements.{filter_map-append}
 use Rattle.std.proofs.lemmas.List.{map-append}
 use Rattle.quil_shape.specs.Shape.{Shape}
 use Rattle.quil_shape.specs.Shape.Shape.{One, Seq, Or, Many}
-use Rattle.quil_shape.specs.Reads.{Halts, Exceeds, starts, is_barred}
+use Rattle.quil_shape.specs.Reads.{Halts, Exceeds, starts}
 use Rattle.quil_shape.proofs.Reading.{choice_first, choice_second, choice_not_first, choice_not_second, empty_advances, token_halts, end_halts, token_exceeds}
 use Rattle.quil_tree.specs.declared.place.Place.{Place}
 use Rattle.quil_tree.specs.declared.statement.Name.{Name as Called}

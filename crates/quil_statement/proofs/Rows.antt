@@ -7,7 +7,7 @@ use Rattle.quil_grammar.specs.declared.class.Class.TheVariants as class
 use Rattle.quil_grammar.specs.Token.{Token}
 use Rattle.quil_grammar.specs.Written.{Written, formula_of}
 use Rattle.quil_grammar.specs.Statements.{formulas}
-use Rattle.quil_statement.specs.Meaning.{value_of, kept_of}
+use Rattle.quil_statement.specs.Meaning.{value_of}
 use Rattle.quil_statement.specs.Says.{Reads, SaysRow, SaysNumbers}
 use Rattle.quil_statement.specs.Loops.{listed, values, keeping, AreFormulas}
 use Rattle.quil_statement.proofs.Said.{kept}
