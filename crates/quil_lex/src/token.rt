@@ -32,10 +32,6 @@ pub enum Mark {
     LeftBracket,
     /// `]`
     RightBracket,
-    /// `,`
-    Comma,
-    /// `:`
-    Colon,
     /// `+`
     Plus,
     /// `-`
@@ -46,6 +42,10 @@ pub enum Mark {
     Slash,
     /// `^`
     Caret,
+    /// `,`
+    Comma,
+    /// `:`
+    Colon,
 }
 
 /// A token with its place. Lines and columns count from 1, columns in bytes.

@@ -6,12 +6,13 @@ use Rattle.std.specs.Cmp.{nat_cmp_is}
 use Rattle.std.specs.declared.cmp.Ordering.{Ordering}
 use Rattle.std.specs.declared.cmp.Ordering.TheVariants.{Less, Equal, Greater}
 use Rattle.std.proofs.lemmas.Int.{ints, unsigned_abs-mul}
-use Rattle.std.proofs.lemmas.Bool.{ltb-true, ltb-false, lt-ltb, le-ltb}
+use Rattle.std.proofs.lemmas.Bool.{lt-ltb, le-ltb}
 use Rattle.std.proofs.Math.Nat.{mul-le-mul}
 use borrow.Author.Differences.{same_in}
 use mir.Val.{to_z, of_z}
 use mir.Syntax.{w128}
 use Rattle.qvm_ring.specs.Ring.{is_positive}
+use Rattle.qvm_ring.proofs.FiniteMaps.{order_of}
 use Rattle.qvm_ring.specs.declared.norm.Norm.{Norm}
 use Rattle.qvm_ring.specs.Measure.{exceeds}
 use Rattle.qvm_ring.specs.NormViews.{norm_seen}
@@ -26,15 +27,6 @@ cmp_equal a b h = sym (nat_cmp_is a b Equal h)
 
 pub cmp_greater : (a b : ℕ) → b < a → nat_cmp a b ≡ Greater
 cmp_greater a b h = sym (nat_cmp_is a b Greater h)
-
-order_of : (x y : ℕ) → (x < y) ⊎ ((x ≡ y) ⊎ (y < x))
-order_of x y = elim (nat_lt x y) as (λ b. nat_lt x y ≡ b → (x < y) ⊎ ((x ≡ y) ⊎ (y < x))) [
-  | true ↦ λ e. inl (ltb-true x y e)
-  | false ↦ λ e. let l : y ≤ x = ltb-false x y e in elim (nat_lt y x) as (λ b. nat_lt y x ≡ b → (x < y) ⊎ ((x ≡ y) ⊎ (y < x))) [
-    | true ↦ λ f. inr (inr (ltb-true y x f))
-    | false ↦ λ f. let k : x ≤ y = ltb-false y x f in inr (inl (omega arith))
-  ] refl
-] refl
 
 -- ---- where the descent ends
 
