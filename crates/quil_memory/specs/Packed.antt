@@ -1,12 +1,14 @@
--- How a memory keeps its bits: eight to a byte, the first one the least. Only private contracts and proofs cite this page.
-use Rattle.std.specs.Prelude.{ℕ, ◌/◌, ◌%◌, ◌^◌, ◌==◌, Bool, List, [], map, get_or}
-use Rattle.std.specs.List.{range_with_len}
-
-abbrev pub bit_of_byte : ℕ → ℕ → Bool
-bit_of_byte byte place = byte / 2 ^ place % 2 == 1
+-- How a memory keeps its bits: eight to a byte, the first one the least. Only the view of a memory and proofs cite this page.
+use Rattle.std.specs.Prelude.{ℕ, zero, suc, ◌/◌, ◌%◌, ◌==◌, Bool, List, [], ◌∷◌, get_or}
+use Rattle.std.specs.Int.{bit_at}
 
 abbrev pub packed_bit : List ℕ → ℕ → Bool
-packed_bit bytes place = bit_of_byte (get_or bytes (place / 8) 0) (place % 8)
+packed_bit bytes place = bit_at (get_or bytes (place / 8) 0) (place % 8) == 1
+
+-- so many bits from a place on, each told by its place
+abbrev pub bits_by_place : (ℕ → Bool) → ℕ → ℕ → List Bool
+bits_by_place bit place zero = []
+bits_by_place bit place (suc count) = bit place ∷ bits_by_place bit (suc place) count
 
 abbrev pub unpacked : ℕ → List ℕ → List Bool
-unpacked count bytes = map (packed_bit bytes) (range_with_len 0 count)
+unpacked count bytes = bits_by_place (packed_bit bytes) 0 count

@@ -1,10 +1,10 @@
 //! Memory: the bits of all regions.
 
-ghost use Rattle.std.specs.Prelude.{◌≡◌, ◌+◌, ◌<◌, ◌≤◌, ◌^◌, ◌∷◌, ◌++◌, Bool, List, false, length, replicate, take, drop, slice_get, IfOk, IfSome, IsSomeAnd};
+ghost use Rattle.std.specs.Prelude.{◌≡◌, ◌≢◌, ℕ, ◌+◌, ◌<◌, ◌≤◌, ◌∷◌, ◌++◌, Some, false, length, replicate, take, drop, slice_get, IfOk, IfSome, IsSomeAnd, if◌then◌else◌};
+ghost use Rattle.std.specs.Int.{bit_at};
 ghost use Rattle.quil_memory.specs.CellTypes.{size, InType};
-ghost use Rattle.quil_memory.specs.Cells.{word_at, with_word, value_at, with_value, word_of};
+ghost use Rattle.quil_memory.specs.Cells.{word_at, with_word, value_at, with_value};
 ghost use Rattle.quil_memory.specs.Layout.{first_bit};
-ghost use Rattle.quil_memory.specs.Packed.{packed_bit};
 
 use crate::cell_type::CellType;
 use crate::regions::Layout;
@@ -53,10 +53,7 @@ impl Memory {
         ensures { self.new ≡ take place self.old ++ bit ∷ drop (place + 1) self.old }
     {
         let index = (place / 8) as usize;
-        let weight = 1u8 << (place % 8);
-        let byte = self.bytes[index];
-        let cleared = byte - byte / weight % 2 * weight;
-        self.bytes[index] = if bit { cleared + weight } else { cleared };
+        self.bytes[index] = with_bit(self.bytes[index], place % 8, bit);
     }
 
     /// The bits of a cell that begins at a bit, as a number with the first bit the least.
@@ -64,21 +61,27 @@ impl Memory {
         requires { first + size kind ≤ length self.now }
         ensures { result ≡ word_at kind first self.now }
     {
-        let mut word = 0u64;
-        for index in (0..kind.size()).rev() {
-            word = word * 2 + u64::from(self.bit(first + index));
+        let mut word = 0;
+        let mut left = kind.size();
+        while left > 0 {
+            left -= 1;
+            word = word * 2 + u64::from(self.bit(first + left));
         }
         word
     }
 
     /// Makes the bits of a cell that begins at a bit those of a number. All others stay.
-    pub fn set_word(&mut self, kind: CellType, first: u32, mut word: u64)
+    pub fn set_word(&mut self, kind: CellType, first: u32, word: u64)
         requires { first + size kind ≤ length self.old }
         ensures { self.new ≡ with_word kind first word self.old }
     {
-        for index in 0..kind.size() {
-            self.set_bit(first + index, word % 2 == 1);
-            word /= 2;
+        let end = first + kind.size();
+        let mut place = first;
+        let mut rest = word;
+        while place < end {
+            self.set_bit(place, rest % 2 == 1);
+            rest /= 2;
+            place += 1;
         }
     }
 
@@ -118,4 +121,14 @@ impl Memory {
         let region = layout.region(region);
         self.set_value(region.kind, region.first_bit(index), value)
     }
+}
+
+// A byte with this bit at a place.
+fn with_bit(byte: u8, place: u32, bit: bool) -> u8
+    requires { place < 8 }
+    ensures same { bit_at result place ≡ (if bit then 1 else 0) }
+    ensures others { (other : ℕ) → other < 8 → other ≢ place → bit_at result other ≡ bit_at byte other }
+{
+    let mask = 1u8 << place;
+    if bit { byte | mask } else { byte & !mask }
 }

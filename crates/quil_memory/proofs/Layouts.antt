@@ -1,0 +1,86 @@
+-- A layout with one more region, and the faults of one with SHARING.
+use Rattle.std.proofs.Common.{◌≡◌, refl, sym, ◌∙◌, ap, subst, ℕ, ◌+◌, ◌-◌, ◌*◌, ◌%◌, ◌<◌, ◌≤◌, ◌⊎◌, inl, inr, ◌==◌, nat_lt, Bool, true, false, not, cond, List, [], ◌∷◌, ◌++◌, length, get_or, slice_get, Option, Some, None, is_none, Result, Ok, Err, arith, if◌then◌else◌}
+use Rattle.std.proofs.lemmas.Bool.{ltb-true, ltb-false, lt-ltb, le-ltb, cond-true, cond-false}
+use Rattle.std.proofs.Math.ListN.{get_or-append}
+use Rattle.std.proofs.Math.Seq.{get_or-append_seam}
+use Rattle.std.proofs.lemmas.List.{length-append}
+use Rattle.std.proofs.lemmas.Option.{slice_get_within, slice_get_read, get_or_from_slice_get}
+use Rattle.quil_memory.specs.declared.claim.Claim.{Claim}
+use Rattle.quil_memory.specs.declared.claim.Share.{Share}
+use Rattle.quil_memory.specs.declared.region.Region.{Region}
+use Rattle.quil_memory.specs.declared.fault.LayoutFault.{LayoutFault}
+use Rattle.quil_memory.specs.declared.fault.LayoutFault.TheVariants as fault
+use Rattle.quil_memory.specs.CellTypes.{size}
+use Rattle.quil_memory.specs.Layout.{Regions, IsLayout, width, most_bits, skipped_bits, with_region, with_base, with_bits_of, region_named}
+
+-- what holds of each region holds of each with one more
+each_more : (P : Region → Type 0) (rs : List Region) (r : Region) → ((i : ℕ) (q : Region) → slice_get rs i ≡ Some q → P q) → P r → (i : ℕ) (q : Region) → slice_get (rs ++ r ∷ []) i ≡ Some q → P q
+each_more P rs r each here i q e = by (nat_lt i (length rs)) refl
+  where
+    all : length (rs ++ r ∷ []) ≡ length rs + 1
+    all = length-append rs (r ∷ []) ∙ omega arith
+
+    bound : i < length rs + 1
+    bound = omega (arith, slice_get_within (rs ++ r ∷ []) i q e, all)
+
+    is : get_or (rs ++ r ∷ []) i q ≡ q
+    is = get_or_from_slice_get (rs ++ r ∷ []) i q q e
+
+    by : (b : Bool) → nat_lt i (length rs) ≡ b → P q
+    by true t = each i q (slice_get_read rs (length rs) i q refl (ltb-true i (length rs) t) (sym is ∙ get_or-append rs (r ∷ []) q i (ltb-true i (length rs) t)))
+    by false t =
+        let last : i ≡ length rs = omega (arith, ltb-false i (length rs) t, bound) in
+        let same : r ≡ q = sym (get_or-append_seam rs r [] q) ∙ ap (λ j. get_or (rs ++ r ∷ []) j q) (sym last) ∙ is in
+        subst P same here
+
+pub layout_more : (l : Regions) (rs : List Region) (r : Region) (bits : ℕ) → IsLayout l → l.regions ≡ rs → bits ≤ most_bits → l.bits ≤ bits → r.first + width r.kind r.length ≤ bits → r.offset ≤ r.first → IsLayout (record { regions = rs ++ r ∷ []; bits = bits })
+layout_more l rs r bits h is few more within below = record {
+    few = few;
+    within = each_more (λ q. q.first + width q.kind q.length ≤ bits) rs r (λ i q e. omega (arith, h.within i q (ap (λ (xs : List Region). slice_get xs i) is ∙ e), more)) within;
+    below = each_more (λ q. q.offset ≤ q.first) rs r (λ i q e. h.below i q (ap (λ (xs : List Region). slice_get xs i) is ∙ e)) below
+  }
+
+-- the bits of an offset, and then of the cells, where they are few
+none_over : (a b : ℕ) → None ≡ (if nat_lt a b then None else Some b) → a < b
+none_over a b e = by (nat_lt a b) refl e
+  where
+    by : (t : Bool) → nat_lt a b ≡ t → None ≡ (if t then None else Some b) → a < b
+    by true is e = ltb-true a b is
+    by false is e = cc
+
+some_within : (a b c : ℕ) → Some c ≡ (if nat_lt a b then None else Some b) → (c ≡ b) × (b ≤ a)
+some_within a b c e = by (nat_lt a b) refl e
+  where
+    by : (t : Bool) → nat_lt a b ≡ t → Some c ≡ (if t then None else Some b) → (c ≡ b) × (b ≤ a)
+    by true is e = cc
+    by false is e = (cc, omega (arith, ltb-false a b is))
+
+over : (a b : ℕ) (o : Option ℕ) → o ≡ (if nat_lt a b then None else Some b) → is_none o ≡ true → a < b
+over a b None e n = none_over a b e
+over a b (Some c) e n = cc
+
+within : (a b : ℕ) (o : Option ℕ) → o ≡ (if nat_lt a b then None else Some b) → is_none o ≡ false → b ≤ a
+within a b None e n = cc
+within a b (Some c) e n = (some_within a b c e).1
+
+module _ (l : Regions) (c : Claim) (s : Share) where
+  pub no_base : region_named s.base l.regions ≡ None → with_base l c s (region_named s.base l.regions) ≡ Err (fault.UnknownRegion s.base)
+  no_base e = ap (with_base l c s) e
+
+  module _ (base : Region) (named : region_named s.base l.regions ≡ Some base) (w : ℕ) (wide : w ≡ width base.kind base.length) where
+    outside : width base.kind base.length < skipped_bits s.offsets + width c.kind c.length → with_base l c s (region_named s.base l.regions) ≡ Err (fault.ShareOutside c.name)
+    outside h = ap (with_base l c s) named ∙ cond-true (nat_lt (width base.kind base.length) (skipped_bits s.offsets + width c.kind c.length)) _ _ (lt-ltb (width base.kind base.length) (skipped_bits s.offsets + width c.kind c.length) h)
+
+    pub begins_outside : None ≡ (if nat_lt w (skipped_bits s.offsets) then None else Some (skipped_bits s.offsets)) → with_base l c s (region_named s.base l.regions) ≡ Err (fault.ShareOutside c.name)
+    begins_outside e = outside (omega (arith, none_over w (skipped_bits s.offsets) e, wide))
+
+    module _ (k : ℕ) (o : Option ℕ) (skipped : Some k ≡ (if nat_lt w (skipped_bits s.offsets) then None else Some (skipped_bits s.offsets)))
+        (fits : o ≡ (if nat_lt (w - k) (width c.kind c.length) then None else Some (width c.kind c.length))) where
+      pub skipped_is : k ≡ skipped_bits s.offsets
+      skipped_is = (some_within w (skipped_bits s.offsets) k skipped).0
+
+      pub ends_outside : is_none o ≡ true → with_base l c s (region_named s.base l.regions) ≡ Err (fault.ShareOutside c.name)
+      ends_outside n = outside (omega (arith, over (w - k) (width c.kind c.length) o fits n, skipped_is, wide))
+
+      pub inside : is_none o ≡ false → skipped_bits s.offsets + width c.kind c.length ≤ width base.kind base.length
+      inside n = omega (arith, within (w - k) (width c.kind c.length) o fits n, some_within w (skipped_bits s.offsets) k skipped, wide)
