@@ -1,5 +1,5 @@
 -- A layout with one more region, and the faults of one with SHARING.
-use Rattle.std.proofs.Common.{◌≡◌, refl, sym, ◌∙◌, ap, subst, ℕ, ◌+◌, ◌-◌, ◌*◌, ◌%◌, ◌<◌, ◌≤◌, ◌⊎◌, inl, inr, ◌==◌, nat_lt, Bool, true, false, not, cond, List, [], ◌∷◌, ◌++◌, length, get_or, slice_get, Option, Some, None, is_none, Result, Ok, Err, arith, if◌then◌else◌}
+use Rattle.std.proofs.Common.{◌≡◌, refl, sym, ◌∙◌, ap, subst, ℕ, ◌+◌, ◌-◌, ◌*◌, ◌%◌, ◌<◌, ◌≤◌, ◌⊎◌, inl, inr, ◌==◌, nat_lt, Bool, true, false, not, cond, List, [], ◌∷◌, ◌++◌, length, get_or, slice_get, Option, Some, None, is_some, is_none, fold, Result, Ok, Err, arith, if◌then◌else◌}
 use Rattle.std.proofs.lemmas.Bool.{ltb-true, ltb-false, lt-ltb, le-ltb, cond-true, cond-false}
 use Rattle.std.proofs.Math.ListN.{get_or-append}
 use Rattle.std.proofs.Math.Seq.{get_or-append_seam}
@@ -11,7 +11,7 @@ use Rattle.quil_memory.specs.declared.region.Region.{Region}
 use Rattle.quil_memory.specs.declared.fault.LayoutFault.{LayoutFault}
 use Rattle.quil_memory.specs.declared.fault.LayoutFault.TheVariants as fault
 use Rattle.quil_memory.specs.CellTypes.{size}
-use Rattle.quil_memory.specs.Layout.{Regions, IsLayout, width, most_bits, skipped_bits, with_region, with_base, with_bits_of, region_named}
+use Rattle.quil_memory.specs.Layout.{Regions, IsLayout, Gives, width, most_bits, skipped_bits, with_region, with_base, with_bits_of, with_new, with_claim, with_next, region_named}
 
 -- what holds of each region holds of each with one more
 each_more : (P : Region → Type 0) (rs : List Region) (r : Region) → ((i : ℕ) (q : Region) → slice_get rs i ≡ Some q → P q) → P r → (i : ℕ) (q : Region) → slice_get (rs ++ r ∷ []) i ≡ Some q → P q
@@ -84,3 +84,32 @@ module _ (l : Regions) (c : Claim) (s : Share) where
 
       pub inside : is_none o ≡ false → skipped_bits s.offsets + width c.kind c.length ≤ width base.kind base.length
       inside n = omega (arith, within (w - k) (width c.kind c.length) o fits n, some_within w (skipped_bits s.offsets) k skipped, wide)
+
+      pub misaligned : is_none o ≡ false → ((base.offset + k) % size c.kind == 0) ≡ false → with_base l c s (region_named s.base l.regions) ≡ Err (fault.Misaligned c.name)
+      misaligned n e =
+          ap (with_base l c s) named
+          ∙ cond-false (nat_lt (width base.kind base.length) (skipped_bits s.offsets + width c.kind c.length)) _ _ (le-ltb (width base.kind base.length) (skipped_bits s.offsets + width c.kind c.length) (inside n))
+          ∙ cond-true (not ((base.offset + skipped_bits s.offsets) % size c.kind == 0)) _ _ (ap (λ j. not ((base.offset + j) % size c.kind == 0)) (sym skipped_is) ∙ ap not e)
+
+      pub placed : is_none o ≡ false → ((base.offset + k) % size c.kind == 0) ≡ true → with_base l c s (region_named s.base l.regions) ≡ Ok (record { regions = with_region l c (base.first + k) (base.offset + k); bits = l.bits })
+      placed n e =
+          ap (with_base l c s) named
+          ∙ cond-false (nat_lt (width base.kind base.length) (skipped_bits s.offsets + width c.kind c.length)) _ _ (le-ltb (width base.kind base.length) (skipped_bits s.offsets + width c.kind c.length) (inside n))
+          ∙ cond-false (not ((base.offset + skipped_bits s.offsets) % size c.kind == 0)) _ _ (ap (λ j. not ((base.offset + j) % size c.kind == 0)) (sym skipped_is) ∙ ap not e)
+          ∙ ap (λ j. Ok (record { regions = with_region l c (base.first + j) (base.offset + j); bits = l.bits })) (sym skipped_is)
+
+-- a claim by its name
+pub name_known : (l : Regions) (c : Claim) → is_some (region_named c.name l.regions) ≡ true → with_claim l c ≡ Err (fault.Redeclared c.name)
+name_known l c e = cond-true (is_some (region_named c.name l.regions)) _ _ e
+
+pub name_new : (l : Regions) (c : Claim) (s : Option Share) → is_some (region_named c.name l.regions) ≡ false → c.share ≡ s → with_claim l c ≡ with_new l c s
+name_new l c s e is = cond-false (is_some (region_named c.name l.regions)) _ _ e ∙ ap (with_new l c) is
+
+-- nothing is declared behind a fault
+pub fault_stays : (f : LayoutFault) (cs : List Claim) → fold with_next (Err f) cs ≡ Err f
+fault_stays f [] = refl
+fault_stays f (c ∷ cs) = fault_stays f cs
+
+pub first_fault : (l : Regions) (c : Claim) (cs : List Claim) (f : LayoutFault) → Gives (Err f) (with_claim l c) → Gives (Err f) (fold with_next (Ok l) (c ∷ cs))
+first_fault l c cs f (inl e) = inl (sym (ap (λ r. fold with_next r cs) (sym e) ∙ fault_stays f cs))
+first_fault l c cs f (inr e) = inr e

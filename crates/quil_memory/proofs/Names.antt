@@ -2,10 +2,10 @@
 use Rattle.std.proofs.Common.{◌≡◌, refl, sym, ◌∙◌, ap, subst, ℕ, ◌+◌, ◌<◌, ◌≤◌, Bool, true, false, not, cond, nat_lt, List, [], ◌∷◌, ◌++◌, length, map, position, slice_get, Option, Some, None, is_some, ◌||◌, arith}
 use Rattle.std.specs.List.{position_or_len, list_any, find}
 use Rattle.std.specs.Str.{bytes_eq}
-use Rattle.std.proofs.lemmas.Bool.{ltb-false, cond-false}
+use Rattle.std.proofs.lemmas.Bool.{ltb-true, ltb-false, cond-false}
 use Rattle.std.proofs.lemmas.List.{length-map, map-append}
 use Rattle.std.proofs.lemmas.List.Folds.{find_at}
-use Rattle.std.proofs.lemmas.Option.{slice_get_past}
+use Rattle.std.proofs.lemmas.Option.{slice_get_past, slice_get-get_or, same_Some}
 use Rattle.quil_memory.specs.declared.region.Region.{Region}
 use Rattle.quil_memory.specs.Layout.{region_named}
 
@@ -59,3 +59,16 @@ names_more items n k ks new rs r same none is keys name =
     ∙ sym (list_any-map (λ (r : Region). r.name) (bytes_eq n) rs) ∙ any_none (λ r. bytes_eq n r.name) rs none in
     ap (map items) (keys ∙ cond-false (list_any (λ x. bytes_eq (items k) (items x)) ks) ks (ks ++ k ∷ []) absent) ∙ map-append items ks (k ∷ [])
     ∙ ap (λ l. l ++ items k ∷ []) same ∙ ap (λ m. map (λ r. r.name) rs ++ m ∷ []) (is ∙ sym name) ∙ sym (map-append (λ (r : Region). r.name) rs (r ∷ []))
+
+some_at : {A : Type 0} (xs : List A) (i : ℕ) → i < length xs → is_some (slice_get xs i) ≡ true
+some_at [] i h = absurd (omega arith)
+some_at (x ∷ xs) i h = ap is_some (slice_get-get_or (x ∷ xs) i x h)
+
+-- a name that the index has is a region's
+pub known_same : (n : List ℕ) (rs : List Region) (o : Option ℕ) → o ≡ position (λ (r : Region). bytes_eq n r.name) rs → is_some (region_named n rs) ≡ is_some o
+known_same n rs None e = ap is_some (missing n rs (sym e))
+known_same n rs (Some i) e = by (nat_lt (position_or_len (λ (r : Region). bytes_eq n r.name) rs) (length rs)) refl e
+  where
+    by : (b : Bool) → nat_lt (position_or_len (λ (r : Region). bytes_eq n r.name) rs) (length rs) ≡ b → ◌≡◌ {A = Option ℕ} (Some i) (cond b (Some (position_or_len (λ (r : Region). bytes_eq n r.name) rs)) None) → is_some (region_named n rs) ≡ true
+    by true t f = ap is_some (found n rs i (sym e)) ∙ some_at rs i (subst (λ j. j < length rs) (sym (same_Some i (position_or_len (λ (r : Region). bytes_eq n r.name) rs) f)) (ltb-true (position_or_len (λ (r : Region). bytes_eq n r.name) rs) (length rs) t))
+    by false t f = cc

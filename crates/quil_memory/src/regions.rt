@@ -195,6 +195,7 @@ impl Layout {
     ///
     /// Refuses, in this order: Redeclared; UnknownRegion; ShareOutside; Misaligned; MemoryTooLarge. The claim's line isn't
     /// looked at.
+    #[tactic(auto, using(crate::proofs::Names::known_same, crate::proofs::Layouts::name_known, crate::proofs::Layouts::name_new))]
     pub fn declare(self, alloc: Global, claim: &Claim) -> Result<Layout, LayoutFault>
         ensures { Gives result (with_claim self claim.now) }
     {

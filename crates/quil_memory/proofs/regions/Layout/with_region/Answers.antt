@@ -1,4 +1,4 @@
-use Rattle.std.proofs.Common.{◌≡◌, ap, ◌∙◌, sym, subst, is_some, false, List, length, ◌+◌, arith}
+use Rattle.std.proofs.Common.{◌≡◌, refl, ap, ◌∙◌, sym, subst, is_some, false, List, length, map, [], ◌∷◌, ◌++◌, ◌<◌, ◌^◌, arith}
 use Rattle.std.proofs.lemmas.List.{length-append}
 use Rattle.quil_memory.specs.Layout.{Regions, IsLayout, region_named}
 use Rattle.quil_memory.specs.declared.region.Region.{Region}
@@ -14,4 +14,6 @@ invariant_of-self c =
     let missed : is_some (region_named name rs) ≡ false = ap (λ (l : Regions). is_some (region_named name l.regions)) c.self.view_is ∙ c.requires.new in
     let names = names_more (λ v. v.items) name c.in_ok-key.key c.self.inside.names.keys c.insert.new.self.keys rs r c.self.invariant.0 missed (c.in_ok-key.ensures.items ∙ c.as_bytes.ensures) c.in_ok-insert.ensures.keys c.in_ok-copied.ensures in
     let more = layout_more (record { regions = rs; bits = c.self.inside.bits }) rs r c.args.bits c.self.invariant.2 refl c.requires.few (omega (arith, ap (λ (l : Regions). l.bits) c.self.view_is, c.requires.more)) c.requires.within c.requires.below in
-    ?
+    let items : c.push.new.self.items ≡ rs ++ r ∷ [] = c.in_ok-push.ensures.items in
+    let count : length c.push.new.self.items < 2 ^ 32 = omega (arith, ap (length {A = Region}) items, length-append rs (r ∷ []), c.if-len.false, c.len.ensures) in
+    (names ∙ ap (map (λ (r : Region). r.name)) (sym items), count, subst (λ (xs : List Region). IsLayout (record { regions = xs; bits = c.args.bits })) (sym items) more)
