@@ -2,6 +2,7 @@
 use Rattle.std.proofs.Common.{◌≡◌, refl, sym, ◌∙◌, ap, subst, ℕ, ◌+◌, ◌<◌, ◌≤◌, Bool, true, false, not, cond, nat_lt, List, [], ◌∷◌, ◌++◌, length, map, position, slice_get, Option, Some, None, is_some, ◌||◌, arith}
 use Rattle.std.specs.List.{position_or_len, list_any, find}
 use Rattle.std.specs.Str.{bytes_eq}
+use Rattle.std.specs.Option.{IfSome, IfNone}
 use Rattle.std.proofs.lemmas.Bool.{ltb-true, ltb-false, cond-false}
 use Rattle.std.proofs.lemmas.List.{length-map, map-append}
 use Rattle.std.proofs.lemmas.List.Folds.{find_at}
@@ -72,3 +73,11 @@ known_same n rs (Some i) e = by (nat_lt (position_or_len (λ (r : Region). bytes
     by : (b : Bool) → nat_lt (position_or_len (λ (r : Region). bytes_eq n r.name) rs) (length rs) ≡ b → ◌≡◌ {A = Option ℕ} (Some i) (cond b (Some (position_or_len (λ (r : Region). bytes_eq n r.name) rs)) None) → is_some (region_named n rs) ≡ true
     by true t f = ap is_some (found n rs i (sym e)) ∙ some_at rs i (subst (λ j. j < length rs) (sym (same_Some i (position_or_len (λ (r : Region). bytes_eq n r.name) rs) f)) (ltb-true (position_or_len (λ (r : Region). bytes_eq n r.name) rs) (length rs) t))
     by false t f = cc
+
+pub region_is : (n : List ℕ) (rs : List Region) (o : Option ℕ) → o ≡ position (λ (r : Region). bytes_eq n r.name) rs → IfSome o (λ i. region_named n rs ≡ slice_get rs i)
+region_is n rs None e = tt
+region_is n rs (Some i) e = found n rs i (sym e)
+
+pub none_is : (n : List ℕ) (rs : List Region) (o : Option ℕ) → o ≡ position (λ (r : Region). bytes_eq n r.name) rs → IfNone o (region_named n rs ≡ None)
+none_is n rs None e = missing n rs (sym e)
+none_is n rs (Some i) e = tt

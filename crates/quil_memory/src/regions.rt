@@ -1,6 +1,6 @@
 //! Layouts: the regions of a program, and where their bits are.
 
-ghost use Rattle.std.specs.Prelude.{◌≡◌, ◌+◌, ◌*◌, ◌<◌, ◌≤◌, length, map, option_copied, slice_get, bytes_eq, Some, Ok, IfSome, is_some, false};
+ghost use Rattle.std.specs.Prelude.{◌≡◌, ◌+◌, ◌*◌, ◌<◌, ◌≤◌, length, map, option_copied, slice_get, bytes_eq, Some, None, Ok, IfSome, IfNone, is_some, false};
 ghost use Rattle.std.specs.List.{position};
 ghost use Rattle.quil_memory.specs.CellTypes.{size};
 ghost use Rattle.quil_memory.specs.Layout.{Regions, IsLayout, Gives, no_regions, most_bits, width, region_named, with_region, with_own_bits, with_base, with_claim};
@@ -55,6 +55,15 @@ impl Layout {
     {
         let index = self.names.get_index_of(name)?;
         Some(index as u32)
+    }
+
+    // The same of a name.
+    fn number_of(&self, name: &Name) -> Option<u32>
+        ensures known { is_some (region_named name.now self.now.regions) ≡ is_some result }
+        ensures region { IfSome result (λ number. region_named name.now self.now.regions ≡ slice_get self.now.regions number) }
+        ensures none { IfNone result (region_named name.now self.now.regions ≡ None) }
+    {
+        self.find(name.as_bytes())
     }
 
     /// How many regions there are.
@@ -167,7 +176,7 @@ impl Layout {
         requires { is_some (region_named claim.now.name self.regions) ≡ false }
         ensures { Gives result (with_base self claim.now share.now (region_named share.now.base self.regions)) }
     {
-        let Some(number) = self.find(share.base.as_bytes()) else {
+        let Some(number) = self.number_of(&share.base) else {
             let word = share.base.copied(alloc)?;
             return Err(LayoutFault::UnknownRegion { word });
         };
@@ -195,11 +204,11 @@ impl Layout {
     ///
     /// Refuses, in this order: Redeclared; UnknownRegion; ShareOutside; Misaligned; MemoryTooLarge. The claim's line isn't
     /// looked at.
-    #[tactic(auto, using(crate::proofs::Names::known_same, crate::proofs::Layouts::name_known, crate::proofs::Layouts::name_new))]
+    #[tactic(auto, using(crate::proofs::Layouts::name_known, crate::proofs::Layouts::name_new))]
     pub fn declare(self, alloc: Global, claim: &Claim) -> Result<Layout, LayoutFault>
         ensures { Gives result (with_claim self claim.now) }
     {
-        if self.find(claim.name.as_bytes()).is_some() {
+        if self.number_of(&claim.name).is_some() {
             let word = claim.name.copied(alloc)?;
             return Err(LayoutFault::Redeclared { word });
         }

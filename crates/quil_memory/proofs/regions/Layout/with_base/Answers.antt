@@ -1,34 +1,33 @@
 use Rattle.std.proofs.Common.{◌≡◌, ap, ◌∙◌, sym, subst, None, Some, Err, Ok, inl, inr, slice_get, List, false, true}
 use Rattle.quil_memory.specs.Layout.{Regions, Gives, region_named, with_base, with_region}
 use Rattle.quil_memory.specs.declared.fault.LayoutFault.TheVariants as fault
-use Rattle.quil_memory.proofs.Names.{found, missing}
 use Rattle.quil_memory.proofs.Layouts.{no_base, begins_outside, ends_outside, misaligned, placed}
 use Rattle.quil_memory.proofs.regions.Layout.with_base.Goals as goal
 
 pub returns-in_default : goal.returns-in_default
 returns-in_default c =
     inl (ap (λ n. Err (fault.UnknownRegion n)) c.in_ok-word.ensures
-      ∙ sym (no_base c.args.self c.args.claim.now c.args.share.now (missing c.args.share.now.base c.args.self.regions (sym c.in_default.ensures))))
+      ∙ sym (no_base c.args.self c.args.claim.now c.args.share.now c.in_default.ensures.none))
 
 pub returns-in_default-skipped_within : goal.returns-in_default-skipped_within
 returns-in_default-skipped_within c =
-    let named : region_named c.args.share.now.base c.args.self.regions ≡ Some c.region-base.result.now = found c.args.share.now.base c.args.self.regions c.in-Some.number (sym c.in-Some.ensures) ∙ c.region-base.ensures in
+    let named : region_named c.args.share.now.base c.args.self.regions ≡ Some c.region-base.result.now = c.in-Some.ensures.region ∙ c.region-base.ensures in
     inl (ap (λ n. Err (fault.ShareOutside n)) c.in_ok-word-2.ensures
       ∙ sym (begins_outside c.args.self c.args.claim.now c.args.share.now c.region-base.result.now named c.width-width.result c.width-width.ensures c.in_default-skipped_within.ensures))
 
 pub returns-then-is_none : goal.returns-then-is_none
 returns-then-is_none c =
-    let named : region_named c.args.share.now.base c.args.self.regions ≡ Some c.region-base.result.now = found c.args.share.now.base c.args.self.regions c.in-Some.number (sym c.in-Some.ensures) ∙ c.region-base.ensures in
+    let named : region_named c.args.share.now.base c.args.self.regions ≡ Some c.region-base.result.now = c.in-Some.ensures.region ∙ c.region-base.ensures in
     inl (ap (λ n. Err (fault.ShareOutside n)) c.in_ok-word-3.ensures
       ∙ sym (ends_outside c.args.self c.args.claim.now c.args.share.now c.region-base.result.now named c.width-width.result c.width-width.ensures c.in-Some-skipped_within.skipped c.bits_within.result c.in-Some-skipped_within.ensures c.bits_within.ensures (sym c.is_none.ensures ∙ c.if-is_none.true)))
 
 pub returns-then-offset-skipped-ne0 : goal.returns-then-offset-skipped-ne0
 returns-then-offset-skipped-ne0 c =
-    let named : region_named c.args.share.now.base c.args.self.regions ≡ Some c.region-base.result.now = found c.args.share.now.base c.args.self.regions c.in-Some.number (sym c.in-Some.ensures) ∙ c.region-base.ensures in
+    let named : region_named c.args.share.now.base c.args.self.regions ≡ Some c.region-base.result.now = c.in-Some.ensures.region ∙ c.region-base.ensures in
     inl (ap (λ n. Err (fault.Misaligned n)) c.in_ok-word-4.ensures
       ∙ sym (misaligned c.args.self c.args.claim.now c.args.share.now c.region-base.result.now named c.width-width.result c.width-width.ensures c.in-Some-skipped_within.skipped c.bits_within.result c.in-Some-skipped_within.ensures c.bits_within.ensures (sym c.is_none.ensures ∙ c.if-is_none.false) ?))
 
 pub returns : goal.returns
 returns c =
-    let named : region_named c.args.share.now.base c.args.self.regions ≡ Some c.region-base.result.now = found c.args.share.now.base c.args.self.regions c.in-Some.number (sym c.in-Some.ensures) ∙ c.region-base.ensures in
+    let named : region_named c.args.share.now.base c.args.self.regions ≡ Some c.region-base.result.now = c.in-Some.ensures.region ∙ c.region-base.ensures in
     subst (Gives c.with_region.result) (? ∙ sym (placed c.args.self c.args.claim.now c.args.share.now c.region-base.result.now named c.width-width.result c.width-width.ensures c.in-Some-skipped_within.skipped c.bits_within.result c.in-Some-skipped_within.ensures c.bits_within.ensures (sym c.is_none.ensures ∙ c.if-is_none.false) ?)) c.with_region.ensures
