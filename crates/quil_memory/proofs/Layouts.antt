@@ -1,5 +1,5 @@
 -- A layout with one more region, and the faults of one with SHARING.
-use Rattle.std.proofs.Common.{◌≡◌, refl, sym, ◌∙◌, ap, subst, ℕ, ◌+◌, ◌-◌, ◌*◌, ◌%◌, ◌<◌, ◌≤◌, ◌⊎◌, inl, inr, ◌==◌, nat_lt, Bool, true, false, not, cond, List, [], ◌∷◌, ◌++◌, length, get_or, slice_get, Option, Some, None, is_some, is_none, fold, Result, Ok, Err, arith, if◌then◌else◌}
+use Rattle.std.proofs.Common.{◌≡◌, refl, sym, ◌∙◌, ap, subst, ℕ, ◌+◌, ◌-◌, ◌*◌, ◌%◌, ◌<◌, ◌≤◌, ◌⊎◌, inl, inr, ◌==◌, nat_lt, Bool, true, false, not, cond, List, [], ◌∷◌, ◌++◌, length, get_or, slice_get, Option, Some, None, is_some, is_none, fold, Result, Ok, Err, IsErrAnd, arith, if◌then◌else◌}
 use Rattle.std.proofs.lemmas.Bool.{ltb-true, ltb-false, lt-ltb, le-ltb, cond-true, cond-false}
 use Rattle.std.proofs.Math.ListN.{get_or-append}
 use Rattle.std.proofs.Math.Seq.{get_or-append_seam}
@@ -55,14 +55,6 @@ some_within a b c e = by (nat_lt a b) refl e
     by true is e = cc
     by false is e = (cc, omega (arith, ltb-false a b is))
 
-over : (a b : ℕ) (o : Option ℕ) → o ≡ (if nat_lt a b then None else Some b) → is_none o ≡ true → a < b
-over a b None e n = none_over a b e
-over a b (Some c) e n = cc
-
-within : (a b : ℕ) (o : Option ℕ) → o ≡ (if nat_lt a b then None else Some b) → is_none o ≡ false → b ≤ a
-within a b None e n = cc
-within a b (Some c) e n = (some_within a b c e).1
-
 module _ (l : Regions) (c : Claim) (s : Share) where
   pub no_base : region_named s.base l.regions ≡ None → with_base l c s (region_named s.base l.regions) ≡ Err (fault.UnknownRegion s.base)
   no_base e = ap (with_base l c s) e
@@ -74,29 +66,29 @@ module _ (l : Regions) (c : Claim) (s : Share) where
     pub begins_outside : None ≡ (if nat_lt w (skipped_bits s.offsets) then None else Some (skipped_bits s.offsets)) → with_base l c s (region_named s.base l.regions) ≡ Err (fault.ShareOutside c.name)
     begins_outside e = outside (omega (arith, none_over w (skipped_bits s.offsets) e, wide))
 
-    module _ (k : ℕ) (o : Option ℕ) (skipped : Some k ≡ (if nat_lt w (skipped_bits s.offsets) then None else Some (skipped_bits s.offsets)))
-        (fits : o ≡ (if nat_lt (w - k) (width c.kind c.length) then None else Some (width c.kind c.length))) where
+    module _ (k : ℕ) (skipped : Some k ≡ (if nat_lt w (skipped_bits s.offsets) then None else Some (skipped_bits s.offsets))) where
       pub skipped_is : k ≡ skipped_bits s.offsets
       skipped_is = (some_within w (skipped_bits s.offsets) k skipped).0
 
-      pub ends_outside : is_none o ≡ true → with_base l c s (region_named s.base l.regions) ≡ Err (fault.ShareOutside c.name)
-      ends_outside n = outside (omega (arith, over (w - k) (width c.kind c.length) o fits n, skipped_is, wide))
+      pub ends_outside : None ≡ (if nat_lt (w - k) (width c.kind c.length) then None else Some (width c.kind c.length)) → with_base l c s (region_named s.base l.regions) ≡ Err (fault.ShareOutside c.name)
+      ends_outside e = outside (omega (arith, none_over (w - k) (width c.kind c.length) e, skipped_is, wide))
 
-      pub inside : is_none o ≡ false → skipped_bits s.offsets + width c.kind c.length ≤ width base.kind base.length
-      inside n = omega (arith, within (w - k) (width c.kind c.length) o fits n, some_within w (skipped_bits s.offsets) k skipped, wide)
+      module _ (m : ℕ) (fits : Some m ≡ (if nat_lt (w - k) (width c.kind c.length) then None else Some (width c.kind c.length))) where
+        inside : skipped_bits s.offsets + width c.kind c.length ≤ width base.kind base.length
+        inside = omega (arith, (some_within (w - k) (width c.kind c.length) m fits).1, (some_within w (skipped_bits s.offsets) k skipped).0, (some_within w (skipped_bits s.offsets) k skipped).1, wide)
 
-      pub misaligned : is_none o ≡ false → ((base.offset + k) % size c.kind == 0) ≡ false → with_base l c s (region_named s.base l.regions) ≡ Err (fault.Misaligned c.name)
-      misaligned n e =
-          ap (with_base l c s) named
-          ∙ cond-false (nat_lt (width base.kind base.length) (skipped_bits s.offsets + width c.kind c.length)) _ _ (le-ltb (width base.kind base.length) (skipped_bits s.offsets + width c.kind c.length) (inside n))
-          ∙ cond-true (not ((base.offset + skipped_bits s.offsets) % size c.kind == 0)) _ _ (ap (λ j. not ((base.offset + j) % size c.kind == 0)) (sym skipped_is) ∙ ap not e)
+        pub misaligned : ((base.offset + k) % size c.kind == 0) ≡ false → with_base l c s (region_named s.base l.regions) ≡ Err (fault.Misaligned c.name)
+        misaligned e =
+            ap (with_base l c s) named
+            ∙ cond-false (nat_lt (width base.kind base.length) (skipped_bits s.offsets + width c.kind c.length)) _ _ (le-ltb (width base.kind base.length) (skipped_bits s.offsets + width c.kind c.length) inside)
+            ∙ cond-true (not ((base.offset + skipped_bits s.offsets) % size c.kind == 0)) _ _ (ap (λ j. not ((base.offset + j) % size c.kind == 0)) (sym skipped_is) ∙ ap not e)
 
-      pub placed : is_none o ≡ false → ((base.offset + k) % size c.kind == 0) ≡ true → with_base l c s (region_named s.base l.regions) ≡ Ok (record { regions = with_region l c (base.first + k) (base.offset + k); bits = l.bits })
-      placed n e =
-          ap (with_base l c s) named
-          ∙ cond-false (nat_lt (width base.kind base.length) (skipped_bits s.offsets + width c.kind c.length)) _ _ (le-ltb (width base.kind base.length) (skipped_bits s.offsets + width c.kind c.length) (inside n))
-          ∙ cond-false (not ((base.offset + skipped_bits s.offsets) % size c.kind == 0)) _ _ (ap (λ j. not ((base.offset + j) % size c.kind == 0)) (sym skipped_is) ∙ ap not e)
-          ∙ ap (λ j. Ok (record { regions = with_region l c (base.first + j) (base.offset + j); bits = l.bits })) (sym skipped_is)
+        pub placed : ((base.offset + k) % size c.kind == 0) ≡ true → with_base l c s (region_named s.base l.regions) ≡ Ok (record { regions = with_region l c (base.first + k) (base.offset + k); bits = l.bits })
+        placed e =
+            ap (with_base l c s) named
+            ∙ cond-false (nat_lt (width base.kind base.length) (skipped_bits s.offsets + width c.kind c.length)) _ _ (le-ltb (width base.kind base.length) (skipped_bits s.offsets + width c.kind c.length) inside)
+            ∙ cond-false (not ((base.offset + skipped_bits s.offsets) % size c.kind == 0)) _ _ (ap (λ j. not ((base.offset + j) % size c.kind == 0)) (sym skipped_is) ∙ ap not e)
+            ∙ ap (λ j. Ok (record { regions = with_region l c (base.first + j) (base.offset + j); bits = l.bits })) (sym skipped_is)
 
 -- a claim by its name
 pub name_known : (l : Regions) (c : Claim) → is_some (region_named c.name l.regions) ≡ true → with_claim l c ≡ Err (fault.Redeclared c.name)
@@ -110,6 +102,18 @@ pub fault_stays : (f : LayoutFault) (cs : List Claim) → fold with_next (Err f)
 fault_stays f [] = refl
 fault_stays f (c ∷ cs) = fault_stays f cs
 
-pub first_fault : (l : Regions) (c : Claim) (cs : List Claim) (f : LayoutFault) → Gives (Err f) (with_claim l c) → Gives (Err f) (fold with_next (Ok l) (c ∷ cs))
-first_fault l c cs f (inl e) = inl (sym (ap (λ r. fold with_next r cs) (sym e) ∙ fault_stays f cs))
-first_fault l c cs f (inr e) = inr e
+rest_of : (claims : List Claim) (c : Claim) → 1 ≤ length claims → c ≡ get_or claims 0 c → (cs : List Claim) × (claims ≡ c ∷ cs)
+rest_of [] c some e = absurd (omega arith)
+rest_of (d ∷ cs) c some e = (cs, ap (λ x. x ∷ cs) (sym e))
+
+pub first_fault : (l : Regions) (c : Claim) (claims : List Claim) (f : LayoutFault) (result all : Result Regions LayoutFault) → 1 ≤ length claims → c ≡ get_or claims 0 c
+    → Gives (Err f) (with_claim l c) → IsErrAnd result (λ g. g ≡ f) → fold with_next (Ok l) claims ≡ all → Gives result all
+first_fault l c claims f (Ok m) all some is h e same = absurd e
+first_fault l c claims f (Err g) all some is h e same =
+    let rest = rest_of claims c some is in
+    let whole : fold with_next (with_claim l c) rest.0 ≡ all = ap (fold with_next (Ok l)) (sym rest.1) ∙ same in
+    by h whole
+  where
+    by : Gives (Err f) (with_claim l c) → fold with_next (with_claim l c) (rest_of claims c some is).0 ≡ all → Gives (Err g) all
+    by (inl i) whole = inl (ap Err e ∙ sym (ap (λ r. fold with_next r (rest_of claims c some is).0) (sym i) ∙ fault_stays f (rest_of claims c some is).0) ∙ whole)
+    by (inr i) whole = inr (ap Err e ∙ i)

@@ -8,7 +8,6 @@ use crate::regions::Layout;
 use std::alloc::Global;
 
 /// The layout of these declarations, or the first fault of the first one that has one.
-#[tactic(auto, using(crate::proofs::Layouts::first_fault))]
 pub fn layout(alloc: Global, mut claims: &[Claim]) -> Result<Layout, LayoutFault>
     ensures { Gives result (with_claims no_regions claims.entry.now) }
 {

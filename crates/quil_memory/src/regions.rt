@@ -184,14 +184,14 @@ impl Layout {
         let width = base.width();
         let first = base.first;
         let offset = base.offset;
-        let Some(skipped) = skipped_within(share.offsets.as_slice(), width) else {
+        let Some(skipped) = skipped_within(&share.offsets, width) else {
             let word = claim.name.copied(alloc)?;
             return Err(LayoutFault::ShareOutside { word });
         };
-        if bits_within(claim.kind, claim.length, width - skipped).is_none() {
+        let Some(_) = bits_within(claim.kind, claim.length, width - skipped) else {
             let word = claim.name.copied(alloc)?;
             return Err(LayoutFault::ShareOutside { word });
-        }
+        };
         if (offset + skipped) % claim.kind.size() != 0 {
             let word = claim.name.copied(alloc)?;
             return Err(LayoutFault::Misaligned { word });

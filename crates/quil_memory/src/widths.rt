@@ -4,7 +4,7 @@ ghost use Rattle.std.specs.Prelude.{◌≡◌, nat_lt, Some, None, if◌then◌e
 ghost use Rattle.quil_memory.specs.Layout.{skipped_bits, width};
 
 use crate::cell_type::CellType;
-use crate::claim::Offset;
+use crate::claim::Offsets;
 
 /// The bits of so many cells, where they are at most so many.
 pub(crate) fn bits_within(kind: CellType, length: u64, most: u32) -> Option<u32>
@@ -17,13 +17,14 @@ pub(crate) fn bits_within(kind: CellType, length: u64, most: u32) -> Option<u32>
 }
 
 /// The bits of an offset, where they are at most so many.
-pub(crate) fn skipped_within(mut offsets: &[Offset], most: u32) -> Option<u32>
-    ensures { result ≡ (if nat_lt most (skipped_bits offsets.entry.now) then None else Some (skipped_bits offsets.entry.now)) }
+pub(crate) fn skipped_within(offsets: &Offsets, most: u32) -> Option<u32>
+    ensures { result ≡ (if nat_lt most (skipped_bits offsets.now) then None else Some (skipped_bits offsets.now)) }
 {
+    let mut parts = offsets.as_slice();
     let mut skipped = 0;
-    while let [offset, rest @ ..] = offsets {
-        skipped += bits_within(offset.kind, offset.count, most - skipped)?;
-        offsets = rest;
+    while let [part, rest @ ..] = parts {
+        skipped += bits_within(part.kind, part.count, most - skipped)?;
+        parts = rest;
     }
     Some(skipped)
 }
