@@ -3,8 +3,11 @@ use Rattle.std.proofs.Common.{◌≡◌, refl, sym, ◌∙◌, ap, subst, ℕ, z
 use Rattle.std.proofs.Math.Seq.{drop-cons, drop-append_seam, take-append_seam, drop-append-add}
 use Rattle.std.proofs.lemmas.List.{drop-drop, drop-take, drop-append-le, take-append-le, take-take, length-take-le, length-drop, length-append, take-append-drop}
 use Rattle.std.proofs.lemmas.Bool.{eqb-true, eqb-false}
+use Rattle.std.proofs.lemmas.Nat.{pow_pos}
+use Rattle.std.proofs.Math.Pow.{pow_mono}
 use Rattle.std.proofs.lemmas.Option.{slice_get_within, get_or_from_slice_get}
 use Rattle.quil_memory.specs.Cells.{number_of, bits_of}
+use mir.Val.{bool_byte}
 
 -- bits, with so many of a number from a place on
 abbrev pub with_bits : ℕ → ℕ → ℕ → List Bool → List Bool
@@ -14,9 +17,10 @@ doubled : (n m : ℕ) (b : Bool) → n < 2 ^ m → (if b then 1 else 0) + 2 * n 
 doubled n m true h = omega (arith, h)
 doubled n m false h = omega (arith, h)
 
-pub number_of-lt : (bs : List Bool) → number_of bs < 2 ^ length bs
-number_of-lt [] = omega arith
-number_of-lt (b ∷ bs) = doubled (number_of bs) (length bs) b (number_of-lt bs)
+pub number_of-lt : (count : ℕ) (bits : List Bool) → number_of (take count bits) < 2 ^ count
+number_of-lt zero bits = omega arith
+number_of-lt (suc count) [] = pow_pos (suc count)
+number_of-lt (suc count) (b ∷ bits) = doubled (number_of (take count bits)) count b (number_of-lt count bits)
 
 -- one more bit of a run in front
 pub number_more : (count place : ℕ) (b : Bool) (bits : List Bool) → slice_get bits place ≡ Some b
@@ -28,6 +32,20 @@ number_more count place b bits e =
     swapped : (n m : ℕ) → m + 2 * n ≡ n * 2 + m
     swapped n m = omega arith
 
+-- the number of a run that is read from its end
+pub number_before : (size left first word : ℕ) (b : Bool) (bits : List Bool) → 0 < left → left ≤ size → slice_get bits (first + (left - 1)) ≡ Some b
+    → word ≡ number_of (take (size - left) (drop (first + left) bits)) → word * 2 + (if b then 1 else 0) ≡ number_of (take (size - (left - 1)) (drop (first + (left - 1)) bits))
+number_before size left first word b bits h k e is =
+    let count : suc (size - left) ≡ size - (left - 1) = omega arith in
+    let place : first + left ≡ suc (first + (left - 1)) = omega arith in
+    ap (λ n. n * 2 + (if b then 1 else 0)) (is ∙ ap (λ j. number_of (take (size - left) (drop j bits))) place)
+    ∙ sym (number_more (size - left) (first + (left - 1)) b bits e)
+    ∙ ap (λ j. number_of (take j (drop (first + (left - 1)) bits))) count
+
+-- a number of fewer bits than a cell has, doubled, and with one bit more
+pub word_small : (size left word : ℕ) (bits : List Bool) → size ≤ 64 → 0 < left → left ≤ size → word ≡ number_of (take (size - left) bits) → word < 2 ^ 63
+word_small size left word bits s h k e = omega (arith, e, number_of-lt (size - left) bits, pow_mono {i = size - left} {j = 63} (omega arith))
+
 -- behind and before a place that is written
 behind : (b : Bool) (first : ℕ) (bits rest : List Bool) → first < length bits → drop (suc first) (take first bits ++ b ∷ rest) ≡ rest
 behind b first [] rest h = absurd (omega arith)
@@ -38,6 +56,10 @@ before : (b : Bool) (first : ℕ) (bits rest more : List Bool) → first < lengt
 before b first [] rest more h = absurd (omega arith)
 before b zero (x ∷ bits) rest more h = refl
 before b (suc first) (x ∷ bits) rest more h = ap (λ xs. x ∷ xs) (before b first bits rest more (omega arith))
+
+pub length_written : (b : Bool) (place : ℕ) (bits new : List Bool) → place < length bits → new ≡ take place bits ++ b ∷ drop (place + 1) bits → length new ≡ length bits
+length_written b place bits new h e =
+    ap (length {A = Bool}) e ∙ length-append (take place bits) (b ∷ drop (place + 1) bits) ∙ omega (arith, length-take-le place bits (omega arith), length-drop (place + 1) bits)
 
 -- the first bit is written, then the others
 pub with_bits_from : (first count n : ℕ) (bits new : List Bool) → first < length bits → new ≡ take first bits ++ (n % 2 == 1) ∷ drop (first + 1) bits
@@ -115,3 +137,18 @@ run_above first count second size n bits h k =
     ∙ ap (take size) (drop-append-add front rest gap)
     ∙ ap (take size) (drop-drop gap (first + count) bits)
     ∙ ap (λ j. take size (drop j bits)) back
+
+pub with_bits_next : (place end n : ℕ) (bits new : List Bool) → place < end → end ≤ length bits → new ≡ take place bits ++ (n % 2 == 1) ∷ drop (place + 1) bits
+    → with_bits (place + 1) (end - (place + 1)) (n / 2) new ≡ with_bits place (end - place) n bits
+with_bits_next place end n bits new h k e =
+    let count : suc (end - (place + 1)) ≡ end - place = omega arith in
+    with_bits_from place (end - (place + 1)) n bits new (omega arith) e ∙ ap (λ j. with_bits place j n bits) count
+
+-- a bit as a number
+pub bit_number : (b : Bool) → bool_byte b ≡ (if b then 1 else 0)
+bit_number true = refl
+bit_number false = refl
+
+pub bit_small : (b : Bool) → bool_byte b ≤ 1
+bit_small true = omega arith
+bit_small false = omega arith

@@ -12,6 +12,12 @@ pub apart : (kind other : CellType) (first second n : ℕ) (bits : List Bool) �
 apart kind other first second n bits h (inl k) = ap number_of (run_below first (size kind) second (size other) n bits h k)
 apart kind other first second n bits h (inr k) = ap number_of (run_above first (size kind) second (size other) n bits h k)
 
+pub size_le : (kind : CellType) → size kind ≤ 64
+size_le cell_type.Bit = omega arith
+size_le cell_type.Octet = omega arith
+size_le cell_type.Integer = omega arith
+size_le cell_type.Real = omega arith
+
 tell : (a z b : ℤ) → IsTrue (int_le a z && int_le z b) → (int_le a z ≡ true) × (int_le z b ≡ true)
 tell a z b h = by (int_le a z) (int_le z b) h
   where

@@ -39,20 +39,20 @@ impl Memory {
     }
 
     // The bit at a place.
-    fn bit(&self, place: u32) -> bool
+    fn bit(&self, place: usize) -> bool
         requires { place < length self.now }
         ensures { slice_get self.now place ≡ Some result }
     {
-        let byte = self.bytes[(place / 8) as usize];
+        let byte = self.bytes[place / 8];
         (byte >> (place % 8)) % 2 == 1
     }
 
     // Makes the bit at a place this one.
-    fn set_bit(&mut self, place: u32, bit: bool)
+    fn set_bit(&mut self, place: usize, bit: bool)
         requires { place < length self.old }
         ensures { self.new ≡ take place self.old ++ bit ∷ drop (place + 1) self.old }
     {
-        let index = (place / 8) as usize;
+        let index = place / 8;
         self.bytes[index] = with_bit(self.bytes[index], place % 8, bit);
     }
 
@@ -62,10 +62,10 @@ impl Memory {
         ensures { result ≡ word_at kind first self.now }
     {
         let mut word = 0;
-        let mut left = kind.size();
+        let mut left = kind.size() as usize;
         while left > 0 {
             left -= 1;
-            word = word * 2 + u64::from(self.bit(first + left));
+            word = word * 2 + u64::from(self.bit(first as usize + left));
         }
         word
     }
@@ -75,8 +75,8 @@ impl Memory {
         requires { first + size kind ≤ length self.old }
         ensures { self.new ≡ with_word kind first word self.old }
     {
-        let end = first + kind.size();
-        let mut place = first;
+        let end = first as usize + kind.size() as usize;
+        let mut place = first as usize;
         let mut rest = word;
         while place < end {
             self.set_bit(place, rest % 2 == 1);
@@ -124,7 +124,7 @@ impl Memory {
 }
 
 // A byte with this bit at a place.
-fn with_bit(byte: u8, place: u32, bit: bool) -> u8
+fn with_bit(byte: u8, place: usize, bit: bool) -> u8
     requires { place < 8 }
     ensures same { bit_at result place ≡ (if bit then 1 else 0) }
     ensures others { (other : ℕ) → other < 8 → other ≢ place → bit_at result other ≡ bit_at byte other }
