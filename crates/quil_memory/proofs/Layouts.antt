@@ -2,6 +2,7 @@
 use Rattle.std.proofs.Common.{◌≡◌, refl, sym, ◌∙◌, ap, subst, ℕ, ◌+◌, ◌-◌, ◌*◌, ◌%◌, ◌<◌, ◌≤◌, ◌⊎◌, inl, inr, ◌==◌, nat_lt, Bool, true, false, not, cond, List, [], ◌∷◌, ◌++◌, length, get_or, slice_get, Option, Some, None, is_some, is_none, fold, Result, Ok, Err, IsErrAnd, arith, if◌then◌else◌}
 use Rattle.std.proofs.lemmas.Bool.{ltb-true, ltb-false, lt-ltb, le-ltb, cond-true, cond-false}
 use Rattle.std.proofs.Math.ListN.{get_or-append}
+use Rattle.std.proofs.Math.Nat.{mul-le-mul_right}
 use Rattle.std.proofs.Math.Seq.{get_or-append_seam}
 use Rattle.std.proofs.lemmas.List.{length-append}
 use Rattle.std.proofs.lemmas.Option.{slice_get_within, slice_get_read, get_or_from_slice_get}
@@ -11,7 +12,7 @@ use Rattle.quil_memory.specs.declared.region.Region.{Region}
 use Rattle.quil_memory.specs.declared.fault.LayoutFault.{LayoutFault}
 use Rattle.quil_memory.specs.declared.fault.LayoutFault.TheVariants as fault
 use Rattle.quil_memory.specs.CellTypes.{size}
-use Rattle.quil_memory.specs.Layout.{Regions, IsLayout, Gives, width, most_bits, skipped_bits, with_region, with_base, with_bits_of, with_new, with_claim, with_next, region_named}
+use Rattle.quil_memory.specs.Layout.{Regions, IsLayout, Gives, first_bit, width, most_bits, skipped_bits, with_region, with_base, with_bits_of, with_new, with_claim, with_next, region_named}
 
 -- what holds of each region holds of each with one more
 each_more : (P : Region → Type 0) (rs : List Region) (r : Region) → ((i : ℕ) (q : Region) → slice_get rs i ≡ Some q → P q) → P r → (i : ℕ) (q : Region) → slice_get (rs ++ r ∷ []) i ≡ Some q → P q
@@ -117,3 +118,10 @@ first_fault l c claims f (Err g) all some is h e same =
     by : Gives (Err f) (with_claim l c) → fold with_next (with_claim l c) (rest_of claims c some is).0 ≡ all → Gives (Err g) all
     by (inl i) whole = inl (ap Err e ∙ sym (ap (λ r. fold with_next r (rest_of claims c some is).0) (sym i) ∙ fault_stays f (rest_of claims c some is).0) ∙ whole)
     by (inr i) whole = inr (ap Err e ∙ i)
+
+-- a cell of a region ends within the bits
+pub cell_ends : (l : Regions) (n index : ℕ) (r : Region) → IsLayout l → slice_get l.regions n ≡ Some r → index < r.length → first_bit r index + size r.kind ≤ l.bits
+cell_ends l n index r h e k = omega (arith, h.within n r e, mul-le-mul_right {m = index + 1} {n = r.length} (size r.kind) (omega arith))
+
+pub region_ends : (l : Regions) (n : ℕ) (r : Region) → IsLayout l → slice_get l.regions n ≡ Some r → r.first + width r.kind r.length ≤ most_bits
+region_ends l n r h e = omega (arith, h.within n r e, h.few)

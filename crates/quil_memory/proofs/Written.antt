@@ -1,7 +1,9 @@
 -- Values of cells that are written.
-use Rattle.std.proofs.Common.{◌≡◌, refl, sym, ◌∙◌, ap, ℕ, zero, suc, ◌+◌, ◌-◌, ◌*◌, ◌^◌, ◌<◌, ◌≤◌, ◌⊎◌, inl, inr, nat_lt, Bool, true, false, List, length, ℤ, pos, negsuc, int_le, IsTrue, ◌&&◌, ◌-ℤ◌, arith, if◌then◌else◌}
+use Rattle.std.proofs.Common.{◌≡◌, refl, sym, ◌∙◌, ap, ℕ, zero, suc, ◌+◌, ◌-◌, ◌*◌, ◌^◌, ◌<◌, ◌≤◌, ◌⊎◌, inl, inr, nat_lt, Bool, true, false, List, length, ℤ, pos, negsuc, int_le, IsTrue, ◌&&◌, w64, ◌-ℤ◌, arith, if◌then◌else◌}
 use Rattle.std.proofs.lemmas.Bool.{lt-ltb, le-ltb, leb-true, cond-true, cond-false}
-use Rattle.std.proofs.lemmas.Int.{ints}
+use Rattle.std.proofs.lemmas.Int.{ints, of_z-to_z}
+use mir.Val.{of_z, to_z}
+use lib.Signed.{mag}
 use Rattle.quil_memory.specs.declared.cell_type.CellType.{CellType}
 use Rattle.quil_memory.specs.declared.cell_type.CellType.TheVariants as cell_type
 use Rattle.quil_memory.specs.CellTypes.{size, least, greatest, InType}
@@ -48,3 +50,8 @@ pub reads_back : (kind : CellType) (first : ℕ) (z : ℤ) (bits : List Bool) �
 reads_back kind first z bits h k =
     let b = tell (least kind) z (greatest kind) k in
     ap (λ xs. value_of kind (number_of xs)) (run_written first (size kind) (word_of z) bits h) ∙ ap (value_of kind) (number_of-bits_of (size kind) (word_of z) (fits kind z b.0 b.1).0) ∙ (fits kind z b.0 b.1).1
+
+-- what `cast_unsigned` gives
+pub word_is : (z : ℤ) → mag z < 2 ^ 63 → of_z w64 (to_z w64 (of_z w64 z)) ≡ word_of z
+word_is (pos n) h = of_z-to_z w64 n (omega (arith, h))
+word_is (negsuc n) h = of_z-to_z w64 (2 ^ 64 - suc n) (omega arith) ∙ omega arith

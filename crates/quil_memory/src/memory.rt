@@ -102,6 +102,7 @@ impl Memory {
     }
 
     /// The value of a region's cell, in a memory of that layout.
+    #[tactic(auto, using(crate::proofs::Layouts::cell_ends, crate::proofs::Layouts::region_ends))]
     pub fn get(&self, layout: &Layout, region: u32, index: u64) -> i64
         requires bits { length self.now ≡ layout.now.bits }
         requires cell { IsSomeAnd (slice_get layout.now.regions region) (λ r. index < r.length) }
@@ -112,6 +113,7 @@ impl Memory {
     }
 
     /// Puts a value that is in its type into a region's cell, in a memory of that layout. All other bits stay.
+    #[tactic(auto, using(crate::proofs::Layouts::cell_ends, crate::proofs::Layouts::region_ends))]
     pub fn set(&mut self, layout: &Layout, region: u32, index: u64, value: i64)
         requires bits { length self.old ≡ layout.now.bits }
         requires cell { IsSomeAnd (slice_get layout.now.regions region) (λ r. index < r.length) }

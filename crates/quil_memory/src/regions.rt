@@ -76,7 +76,8 @@ impl Layout {
     /// The region of a number.
     pub fn region(&self, number: u32) -> &Region
         requires { number < length self.now.regions }
-        ensures { slice_get self.now.regions number ≡ Some result.now }
+        ensures region { slice_get self.now.regions number ≡ Some result.now }
+        ensures kept { IsLayout self.now }
     {
         &self.regions[number as usize]
     }
