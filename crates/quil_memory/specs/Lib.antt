@@ -1,0 +1,5 @@
+pub mod CellTypes
+pub mod Cells
+pub mod Layout
+pub mod EighthsText
+pub mod Packed
