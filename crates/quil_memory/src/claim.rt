@@ -1,6 +1,7 @@
 //! Declarations of regions.
 
-ghost use Rattle.std.specs.Prelude.{◌≡◌, [], ◌∷◌, ◌++◌, List, OnOk};
+ghost use Rattle.std.specs.Prelude.{◌≡◌, [], ◌∷◌, ◌++◌, List, nat_lt, Some, None, OnOk, if◌then◌else◌};
+ghost use Rattle.quil_memory.specs.Layout.{skipped_bits};
 
 use crate::cell_type::CellType;
 use crate::name::Name;
@@ -66,4 +67,16 @@ pub struct Claim {
     pub length: u64,
     pub share: Option<Share>,
     pub line: u32,
+}
+
+// The bits of an offset, where they are at most so many.
+pub(crate) fn skipped_within(mut offsets: &[Offset], most: u32) -> Option<u32>
+    ensures { result ≡ (if nat_lt most (skipped_bits offsets.entry.now) then None else Some (skipped_bits offsets.entry.now)) }
+{
+    let mut skipped = 0;
+    while let [offset, rest @ ..] = offsets {
+        skipped += offset.kind.bits_within(offset.count, most - skipped)?;
+        offsets = rest;
+    }
+    Some(skipped)
 }

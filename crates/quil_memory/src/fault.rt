@@ -4,7 +4,7 @@ ghost use Rattle.std.specs.Prelude.{◌≡◌};
 ghost use Rattle.quil_memory.specs.declared.fault.LayoutFault.TheVariants.{OutOfMemory};
 
 use crate::name::Name;
-use std::alloc::AllocError;
+use std::alloc::{AllocError, AllocFailed};
 
 /// Why declarations have no layout.
 #[derive(Debug, PartialEq, Eq, Drop)]
@@ -27,6 +27,14 @@ impl From<AllocError> for LayoutFault {
     ghost from_gives = { λ _ e. e ≡ OutOfMemory };
 
     fn from(_e: AllocError) -> LayoutFault {
+        LayoutFault::OutOfMemory
+    }
+}
+
+impl<T: Drop> From<AllocFailed<T>> for LayoutFault {
+    ghost from_gives = { λ _ e. e ≡ OutOfMemory };
+
+    fn from(_e: AllocFailed<T>) -> LayoutFault {
         LayoutFault::OutOfMemory
     }
 }

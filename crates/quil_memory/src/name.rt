@@ -34,6 +34,13 @@ impl Name {
         Name { bytes }
     }
 
+    /// A copy.
+    pub fn copied(&self, alloc: Global) -> Result<Name, AllocError>
+        ensures { IfOk result (λ n. n ≡ self.now) }
+    {
+        Name::new(alloc, self.as_bytes())
+    }
+
     /// The bytes.
     pub fn as_bytes(&self) -> &[u8]
         ensures { result.now ≡ self.now }

@@ -26,6 +26,14 @@ impl Region {
         requires few { self.now.first + width self.now.kind self.now.length ≤ most_bits }
         ensures { result ≡ first_bit self.now index }
     {
-        0
+        self.first + index as u32 * self.kind.size()
+    }
+
+    // The bits of all its cells.
+    pub(crate) fn width(&self) -> u32
+        requires { width self.now.kind self.now.length ≤ most_bits }
+        ensures { result ≡ width self.now.kind self.now.length }
+    {
+        self.length as u32 * self.kind.size()
     }
 }
