@@ -1,8 +1,7 @@
 //! The types of cells.
 
-ghost use Rattle.std.specs.Prelude.{◌≡◌, nat_lt, Some, None, if◌then◌else◌};
+ghost use Rattle.std.specs.Prelude.{◌≡◌};
 ghost use Rattle.quil_memory.specs.CellTypes.{size};
-ghost use Rattle.quil_memory.specs.Layout.{width};
 
 /// The type of a region's cells, as in the Quil specification.
 #[derive(Clone, Copy, Debug, PartialEq, Eq)]
@@ -27,15 +26,5 @@ impl CellType {
             CellType::Octet => 8,
             CellType::Integer | CellType::Real => 64,
         }
-    }
-
-    // The bits of so many cells, where they are at most so many.
-    pub(crate) fn bits_within(self, length: u64, most: u32) -> Option<u32>
-        ensures { result ≡ (if nat_lt most (width self length) then None else Some (width self length)) }
-    {
-        if length > u64::from(most / self.size()) {
-            return None;
-        }
-        Some(length as u32 * self.size())
     }
 }

@@ -1,7 +1,6 @@
 //! Declarations of regions.
 
-ghost use Rattle.std.specs.Prelude.{◌≡◌, [], ◌∷◌, ◌++◌, List, nat_lt, Some, None, OnOk, if◌then◌else◌};
-ghost use Rattle.quil_memory.specs.Layout.{skipped_bits};
+ghost use Rattle.std.specs.Prelude.{◌≡◌, [], ◌∷◌, ◌++◌, List, OnOk};
 
 use crate::cell_type::CellType;
 use crate::name::Name;
@@ -22,6 +21,9 @@ pub struct Offsets {
 }
 
 impl Model for Offsets {
+    ghost use Rattle.std.specs.Prelude.{List};
+    ghost use Rattle.quil_memory.specs.declared.claim.Offset.{Offset};
+
     ghost Value = { List Offset };
 
     ghost view = { λ o. o.parts.items };
@@ -67,16 +69,4 @@ pub struct Claim {
     pub length: u64,
     pub share: Option<Share>,
     pub line: u32,
-}
-
-// The bits of an offset, where they are at most so many.
-pub(crate) fn skipped_within(mut offsets: &[Offset], most: u32) -> Option<u32>
-    ensures { result ≡ (if nat_lt most (skipped_bits offsets.entry.now) then None else Some (skipped_bits offsets.entry.now)) }
-{
-    let mut skipped = 0;
-    while let [offset, rest @ ..] = offsets {
-        skipped += offset.kind.bits_within(offset.count, most - skipped)?;
-        offsets = rest;
-    }
-    Some(skipped)
 }

@@ -15,6 +15,7 @@ mod memory;
 mod name;
 mod region;
 mod regions;
+mod widths;
 
 pub use cell_type::CellType;
 pub use claim::{Claim, Offset, Offsets, Share};

@@ -74,7 +74,7 @@ impl Memory {
     /// Makes the bits of a cell that begins at a bit those of a number. All others stay.
     pub fn set_word(&mut self, kind: CellType, first: u32, mut word: u64)
         requires { first + size kind ≤ length self.old }
-        ensures { self.new ≡ with_word kind first word.old self.old }
+        ensures { self.new ≡ with_word kind first word self.old }
     {
         for index in 0..kind.size() {
             self.set_bit(first + index, word % 2 == 1);

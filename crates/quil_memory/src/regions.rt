@@ -6,10 +6,11 @@ ghost use Rattle.quil_memory.specs.CellTypes.{size};
 ghost use Rattle.quil_memory.specs.Layout.{Regions, IsLayout, Gives, no_regions, most_bits, width, region_named, with_region, with_own_bits, with_base, with_claim};
 
 use crate::cell_type::CellType;
-use crate::claim::{Claim, Share, skipped_within};
+use crate::claim::{Claim, Share};
 use crate::fault::LayoutFault;
 use crate::name::Name;
 use crate::region::Region;
+use crate::widths::{bits_within, skipped_within};
 use indexmap::IndexSet;
 use std::alloc::Global;
 use std::marker::Model;
@@ -150,7 +151,7 @@ impl Layout {
         ensures { Gives result (with_own_bits self claim.now) }
     {
         let first = self.bits();
-        match claim.kind.bits_within(claim.length, MOST_BITS - first) {
+        match bits_within(claim.kind, claim.length, MOST_BITS - first) {
             Some(width) => self.with_region(alloc, claim, first, 0, first + width),
             None => Err(LayoutFault::MemoryTooLarge {
                 bits: claim
@@ -178,11 +179,7 @@ impl Layout {
             let word = claim.name.copied(alloc)?;
             return Err(LayoutFault::ShareOutside { word });
         };
-        if claim
-            .kind
-            .bits_within(claim.length, width - skipped)
-            .is_none()
-        {
+        if bits_within(claim.kind, claim.length, width - skipped).is_none() {
             let word = claim.name.copied(alloc)?;
             return Err(LayoutFault::ShareOutside { word });
         }
