@@ -129,9 +129,15 @@ pub enum Classic {
         source: Source,
     },
     /// NEG.
-    Neg { kind: Arithmetic, target: Cell },
+    Neg {
+        kind: Arithmetic,
+        target: Cell,
+    },
     /// NOT.
-    Not { kind: Bitwise, target: Cell },
+    Not {
+        kind: Bitwise,
+        target: Cell,
+    },
     /// AND, IOR and XOR.
     Bits {
         operation: BitOperation,

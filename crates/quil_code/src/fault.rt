@@ -9,7 +9,9 @@ use qvm_diagnostic::{Detail, Diagnostic};
 #[derive(Clone, Copy, Debug, PartialEq, Eq)]
 pub enum Fault {
     /// A parameter is no whole number of eighths of a turn in 64 bits.
-    NotExact { line: u32 },
+    NotExact {
+        line: u32,
+    },
     /// LOAD or STORE meets an index that isn't from 0 to below the length of the region, whose number counts from 0.
     OutOfRange {
         line: u32,
@@ -18,13 +20,22 @@ pub enum Fault {
         length: u64,
     },
     /// RX, RY or RZ under CONTROLLED or FORKED meets an odd number of eighths of a turn.
-    AngleInexact { line: u32, eighths: i64 },
+    AngleInexact {
+        line: u32,
+        eighths: i64,
+    },
     /// The reduced product of the gate weighs more than 2^94.
-    AmplitudeLimit { line: u32 },
+    AmplitudeLimit {
+        line: u32,
+    },
     /// The result isn't in the type of its cell.
-    Overflow { line: u32 },
+    Overflow {
+        line: u32,
+    },
     /// DIV by 0.
-    ZeroDivide { line: u32 },
+    ZeroDivide {
+        line: u32,
+    },
 }
 
 /// Why a classical instruction can't be done. Memory is then as it was.
@@ -38,9 +49,13 @@ pub enum ClassicFault {
         length: u64,
     },
     /// The result isn't in the type of its cell.
-    Overflow { line: u32 },
+    Overflow {
+        line: u32,
+    },
     /// DIV by 0.
-    ZeroDivide { line: u32 },
+    ZeroDivide {
+        line: u32,
+    },
 }
 
 impl From<ClassicFault> for Fault {

@@ -91,6 +91,12 @@ impl From<LayoutFault> for LoadFault {
     }
 }
 
+fn out_of_memory() -> Diagnostic<'static>
+    ensures { result ≡ load_report OutOfMemory }
+{
+    Diagnostic::new(37, "OutOfMemory", &[])
+}
+
 // A refusal that tells a place of the text.
 fn of_place(code: u16, name: &'static str, line: u32, column: u32) -> Diagnostic<'static>
     ensures { result ≡ place_report code name.now line column }
@@ -111,12 +117,7 @@ fn of_word<'a>(code: u16, name: &'static str, word: &'a Name) -> Diagnostic<'a>
     Diagnostic::new(code, name, &[("word", Detail::Word(word.as_bytes()))])
 }
 
-fn of_line_and_word<'a>(
-    code: u16,
-    name: &'static str,
-    line: u32,
-    word: &'a Name,
-) -> Diagnostic<'a>
+fn of_line_and_word<'a>(code: u16, name: &'static str, line: u32, word: &'a Name) -> Diagnostic<'a>
     ensures { result ≡ line_word_report code name.now line word.now }
 {
     Diagnostic::new(
@@ -130,12 +131,7 @@ fn of_line_and_word<'a>(
 }
 
 // A refusal that tells one number under a key.
-fn of_number(
-    code: u16,
-    name: &'static str,
-    key: &'static str,
-    number: u64,
-) -> Diagnostic<'static>
+fn of_number(code: u16, name: &'static str, key: &'static str, number: u64) -> Diagnostic<'static>
     requires { 0 < length key.now }
     ensures { result ≡ number_report code name.now key.now number }
 {
@@ -161,6 +157,7 @@ impl LoadFault {
     pub fn diagnostic(&self) -> Diagnostic<'_>
         ensures { result ≡ load_report self.now }
     {
+        // An arm that lends a word returns at once, since the others lend nothing and the borrows could not join.
         match self {
             LoadFault::NotExact { line, column } => of_place(2, "NotExact", *line, *column),
             LoadFault::ZeroDivisor { line, column } => of_place(3, "ZeroDivisor", *line, *column),
@@ -170,39 +167,48 @@ impl LoadFault {
             LoadFault::BadToken { line, column } => of_place(5, "BadToken", *line, *column),
             LoadFault::Unexpected { line, column } => of_place(6, "Unexpected", *line, *column),
             LoadFault::TextTooLong { length } => of_number(7, "TextTooLong", "length", *length),
-            LoadFault::LeftOut { line, word } => of_line_and_word(8, "LeftOut", *line, word),
-            LoadFault::Redeclared { word } => of_word(9, "Redeclared", word),
-            LoadFault::UnknownRegion { word } => of_word(10, "UnknownRegion", word),
-            LoadFault::ShareOutside { word } => of_word(11, "ShareOutside", word),
-            LoadFault::Misaligned { word } => of_word(12, "Misaligned", word),
+            LoadFault::LeftOut { line, word } => return of_line_and_word(8, "LeftOut", *line, word),
+            LoadFault::Redeclared { word } => return of_word(9, "Redeclared", word),
+            LoadFault::UnknownRegion { word } => return of_word(10, "UnknownRegion", word),
+            LoadFault::ShareOutside { word } => return of_word(11, "ShareOutside", word),
+            LoadFault::Misaligned { word } => return of_word(12, "Misaligned", word),
             LoadFault::MemoryTooLarge { bits } => of_number(13, "MemoryTooLarge", "bits", *bits),
             LoadFault::OutOfRange {
                 index,
                 length,
                 word,
-            } => of_cell(*index, *length, word),
-            LoadFault::NotUnitary { word } => of_word(16, "NotUnitary", word),
+            } => return of_cell(*index, *length, word),
+            LoadFault::NotUnitary { word } => return of_word(16, "NotUnitary", word),
             LoadFault::AngleInexact { line, eighths } => angle_inexact(*line, *eighths),
             LoadFault::Arity { line } => of_line(18, "Arity", *line),
             LoadFault::RepeatedQubit { line } => of_line(19, "RepeatedQubit", *line),
-            LoadFault::UnknownGate { line, word } => {
-                of_line_and_word(20, "UnknownGate", *line, word)
-            }
-            LoadFault::EntryTooLarge { word } => of_word(21, "EntryTooLarge", word),
+            LoadFault::UnknownGate { line, word } => return of_line_and_word(
+                20,
+                "UnknownGate",
+                *line,
+                word,
+            ),
+            LoadFault::EntryTooLarge { word } => return of_word(21, "EntryTooLarge", word),
             LoadFault::CircuitDepth { line } => of_line(22, "CircuitDepth", *line),
             LoadFault::TooManyInstructions { count } => {
                 of_number(23, "TooManyInstructions", "count", *count)
             }
-            LoadFault::UnknownLabel { line, word } => {
-                of_line_and_word(24, "UnknownLabel", *line, word)
-            }
-            LoadFault::RepeatedLabel { line, word } => {
-                of_line_and_word(25, "RepeatedLabel", *line, word)
-            }
+            LoadFault::UnknownLabel { line, word } => return of_line_and_word(
+                24,
+                "UnknownLabel",
+                *line,
+                word,
+            ),
+            LoadFault::RepeatedLabel { line, word } => return of_line_and_word(
+                25,
+                "RepeatedLabel",
+                *line,
+                word,
+            ),
             LoadFault::TypeClash { line } => of_line(26, "TypeClash", *line),
             LoadFault::TooManyQubits { count } => of_number(27, "TooManyQubits", "count", *count),
             LoadFault::NotBuilt { line } => of_line(57, "NotBuilt", *line),
-            LoadFault::OutOfMemory => Diagnostic::new(37, "OutOfMemory", &[]),
+            LoadFault::OutOfMemory => out_of_memory(),
         }
     }
 }
