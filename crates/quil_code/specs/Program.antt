@@ -6,7 +6,7 @@ use Rattle.std.specs.List.Sorted.{IsStrictlyIncreasing}
 use Rattle.quil_memory.specs.declared.cell_type.CellType.{CellType}
 use Rattle.quil_memory.specs.declared.cell_type.CellType.TheVariants as cell_type
 use Rattle.quil_memory.specs.CellTypes.{size, InType}
-use Rattle.quil_memory.specs.Layout.{Regions, width}
+use Rattle.quil_memory.specs.Layout.{Regions, width, most_bits}
 use Rattle.quil_code.specs.declared.classic.Cell.{Cell}
 use Rattle.quil_code.specs.declared.classic.Source.{Source}
 use Rattle.quil_code.specs.declared.classic.Source.TheVariants.{FromCell, Literal}
@@ -78,6 +78,7 @@ Fits (instruction.Classic c) count bits = ClassicFits c bits
 
 -- what each code keeps
 pub record IsProgram (p : Program) : Type 0 where
+  pub few_bits : p.layout.bits ≤ most_bits
   pub few_qubits : length p.qubits ≤ most_qubits
   pub rising : IsStrictlyIncreasing p.qubits
   pub few_lines : length p.lines < 2 ^ 32

@@ -9,8 +9,9 @@ pub const MOST_QUBITS: u32 = 16;
 
 /// A linked program: the layout of its memory, its qubits, and its lines in the order of the expanded text.
 ///
-/// A code keeps that it has at most 16 qubits, whose indices rise, and fewer than 2^32 lines, and that each line fits it: cells
-/// lie within the bits of memory, literals are in their types, qubits are below their count, and those of one gate differ.
+/// A code keeps that it has at most 65,536 bits of memory, at most 16 qubits, whose indices rise, and fewer than 2^32 lines, and that
+/// each line fits it: cells lie within the bits of memory, literals are in their types, qubits are below their count, and those of
+/// one gate differ.
 #[derive(Drop)]
 pub struct Code {
     layout: Layout,
