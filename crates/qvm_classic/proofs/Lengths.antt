@@ -1,5 +1,6 @@
 -- An instruction keeps the number of bits, and its fault keeps them all.
-use Rattle.std.proofs.Common.{◌≡◌, ℕ, suc, ◌+◌, ◌-◌, ◌*◌, ◌<◌, ◌≤◌, Bool, true, false, ◌&&◌, List, length, take, drop, ◌++◌, ℤ, pos, negsuc, refl, ap, arith, sym, ◌∙◌, length-append, length-take, length-drop, mul-le-mul_right}
+use Rattle.std.proofs.Common.{◌≡◌, ℕ, suc, ◌+◌, ◌-◌, ◌*◌, ◌<◌, ◌≤◌, Bool, true, false, ◌&&◌, List, length, take, drop, ◌++◌, ℤ, pos, negsuc, refl, ap, arith, sym, ◌∙◌, length-append, length-take, length-drop}
+use Rattle.std.proofs.Math.Nat.{mul-le-mul_right}
 use Rattle.std.specs.Prelude.{Result, Ok, Err, int_le, int_lt, nat_abs, neg_ℤ, ◌*ℤ◌, int_div, if◌then◌else◌}
 use Rattle.std.specs.Ordering.{int_eq}
 use Rattle.std.proofs.lemmas.Bool.{leb-true}
@@ -32,9 +33,13 @@ kept_unless : (b d : Bool) (x new : List Bool) (f g : ClassicFault) (n : ℕ) �
 kept_unless true d x new f g n e h = cc
 kept_unless false d x new f g n e h = kept_if d x new g n e (λ t. h)
 
+both : (a b : Bool) → (a && b) ≡ true → b ≡ true
+both true b h = h
+both false b h = absurd (cc)
+
 -- a cell of a span lies within it
 within : (i : ℤ) (first width count bits : ℕ) → (int_le (pos 0) i && int_lt i (pos count)) ≡ true → first + count * width ≤ bits → (first + nat_abs i * width) + width ≤ bits
-within (pos k) first width count bits t h = let b = mul-le-mul_right {k = width} (leb-true (suc k) count t) in omega (arith, b)
+within (pos k) first width count bits t h = let b = mul-le-mul_right width (leb-true (suc k) count (both (int_le (pos 0) (pos k)) (int_lt (pos k) (pos count)) t)) in omega (arith, b)
 within (negsuc k) first width count bits t h = cc
 
 two : (kind : CellType) (a b m n : ℕ) (bits : List Bool) → a + size kind ≤ length bits → b + size kind ≤ length bits → length (with_word kind b m (with_word kind a n bits)) ≡ length bits

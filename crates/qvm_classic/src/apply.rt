@@ -102,6 +102,23 @@ fn put_quotient(
     put(memory, line, CellType::Integer, target, quotient_of(x, y))
 }
 
+fn put_product_or_quotient(
+    memory: &mut Memory,
+    line: u32,
+    operation: ProductOperation,
+    target: Cell,
+    x: i64,
+    y: i64,
+) -> Result<(), ClassicFault>
+    requires { CellFits cell_type.Integer target (length memory.old) }
+    ensures { Does result (after_product line operation target x y memory.old) memory.old memory.new }
+{
+    match operation {
+        ProductOperation::Mul => put_product(memory, line, target, x, y),
+        ProductOperation::Div => put_quotient(memory, line, target, x, y),
+    }
+}
+
 fn product(
     memory: &mut Memory,
     line: u32,
@@ -115,10 +132,7 @@ fn product(
 {
     let x = memory.value(CellType::Integer, target.first);
     let y = source_value(memory, CellType::Integer, source);
-    match operation {
-        ProductOperation::Mul => put_product(memory, line, target, x, y),
-        ProductOperation::Div => put_quotient(memory, line, target, x, y),
-    }
+    put_product_or_quotient(memory, line, operation, target, x, y)
 }
 
 fn negate(
