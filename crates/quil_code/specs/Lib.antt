@@ -1,0 +1,5 @@
+pub mod Operands
+pub mod Classic
+pub mod Program
+pub mod Step
+pub mod Faults
