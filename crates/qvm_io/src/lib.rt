@@ -18,6 +18,7 @@ mod outside;
 mod std_sink;
 mod std_source;
 mod system_dice;
+mod tally;
 #[cfg(test)]
 mod tests;
 mod transfer;
