@@ -59,6 +59,11 @@ pub record ReadFails (source : SourceCall) : Type 0 where
   pub front : LosesFront source.left_before source.left_after read_bound
   pub cause : Rose source.faults_before source.faults_after
 
+-- memory ran out, when a front of what was left had been taken, and no read failed
+pub record RunsOutOfMemory (source : SourceCall) : Type 0 where
+  pub front : LosesFront source.left_before source.left_after read_bound
+  pub steady : NoReadFails source
+
 -- all of the output was written, and no write failed
 abbrev pub Writes : SinkCall → List ℕ → Type 0
 Writes sink output = Appends sink.taken_before sink.taken_after output × NoWriteFails sink
@@ -85,12 +90,12 @@ pub record Replies (source : SourceCall) (sink : SinkCall) (status : ℕ) : Type
   pub given : Gives sink reply.output reply.status status
 
 -- How a call with the word `run` ends: with the reply to the text that it read; or the source failed, nothing was written
--- and the status is 6; or memory ran out, no read failed, nothing was written and the status is 8.
+-- and the status is 6; or memory ran out, nothing was written and the status is 8.
 abbrev pub RunEnds : SourceCall → SinkCall → ℕ → Type 0
 RunEnds source sink status =
     Replies source sink status
     ⊎ ((ReadFails source × WritesNothing sink × (status ≡ 6))
-    ⊎ (NoReadFails source × WritesNothing sink × (status ≡ 8)))
+    ⊎ (RunsOutOfMemory source × WritesNothing sink × (status ≡ 8)))
 
 -- how a call with other words ends: with the usage line and the status 2, or the sink failed
 abbrev pub UsageEnds : SinkCall → ℕ → Type 0

@@ -2,6 +2,7 @@
 
 ghost use Rattle.std.specs.Prelude.{◌≡◌, ◌⊎◌, ◌<◌, ◌↔◌, IsTrue, map, string_bytes, codes};
 ghost use Rattle.qvm_io.specs.Causes.{NeverFalls};
+ghost use Rattle.qvm_io.specs.Transfer.{EndsOnceAtMost};
 ghost use Rattle.qvm.specs.Calls.{IsRunCommand, RunEnds, UsageEnds, Gives, usage_text};
 
 use crate::answer::answer;
@@ -56,6 +57,7 @@ fn run<S: Source, K: Sink>(alloc: Global, source: &mut S, sink: &mut K) -> u8
         (record { left_before = S.bytes_left source.old; left_after = S.bytes_left source.new; at_end_after = S.saw_end source.new; faults_before = S.faults source.old; faults_after = S.faults source.new })
         (record { taken_before = K.bytes_taken sink.old; taken_after = K.bytes_taken sink.new; faults_before = K.faults sink.old; faults_after = K.faults sink.new })
         result }
+    ensures one_end { EndsOnceAtMost (S.ends source.old) (S.ends source.new) (S.saw_end source.new) }
     ensures read_fault { result ≡ 6 → sink.new ≡ sink.old }
     ensures no_memory { result ≡ 8 → sink.new ≡ sink.old }
     ensures source_count { NeverFalls (S.faults source.old) (S.faults source.new) }
@@ -90,6 +92,7 @@ pub fn local_main<S: Source, K: Sink>(
         (record { taken_before = K.bytes_taken sink.old; taken_after = K.bytes_taken sink.new; faults_before = K.faults sink.old; faults_after = K.faults sink.new })
         result }
     ensures reads_nothing { ¬ (IsRunCommand (map string_bytes words.now)) → source.new ≡ source.old }
+    ensures one_end { EndsOnceAtMost (S.ends source.old) (S.ends source.new) (S.saw_end source.new) }
     ensures read_fault { result ≡ 6 → sink.new ≡ sink.old }
     ensures no_memory { result ≡ 8 → sink.new ≡ sink.old }
     ensures source_count { NeverFalls (S.faults source.old) (S.faults source.new) }

@@ -4,7 +4,7 @@ use Rattle.qvm_io.specs.declared.errors.Failed.{Failed}
 use Rattle.qvm_io.specs.Planned.{is_next_planned}
 
 -- the bytes that are left, the sizes of the next pieces, the numbers of the reads that fail, how many
--- reads there were, how many of them failed, and whether the last one answered 0
+-- reads there were, how many of them failed, whether the last one answered 0, and how many did
 pub record SourceState : Type 0 where
   pub left : List ℕ
   pub pieces : List ℕ
@@ -12,6 +12,7 @@ pub record SourceState : Type 0 where
   pub reads : ℕ
   pub faults : ℕ
   pub saw_end : Bool
+  pub ends : ℕ
 
 -- the most bytes that a read into a buffer of length `room` gives: the next piece's size, where 0
 -- counts as 1, and as many as the buffer holds after the last piece

@@ -6,6 +6,8 @@
 //! it has left or what it took, contracts name the exact bytes or words; where it doesn't, they claim
 //! nothing of them. The forms in memory are for tests and tell all; the forms over std tell what std's
 //! reader or writer tells, which of the process's own streams is nothing.
+//! A source also tells how often a read answered 0, so that a caller can prove that it read nothing
+//! behind the end. That number stands in proofs alone and has no bound.
 //! `read_all` and `write_all` are the loops that every command needs.
 #![tactic(auto)]
 
@@ -18,6 +20,7 @@ mod outside;
 mod std_sink;
 mod std_source;
 mod system_dice;
+mod tally;
 #[cfg(test)]
 mod tests;
 mod transfer;

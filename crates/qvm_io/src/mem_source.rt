@@ -1,10 +1,11 @@
 ghost use Rattle.std.specs.Prelude.{◌≡◌, ℕ, ◌<◌, List, length, take, drop, Some, IfOk, OnOk, OnErr, is_ok, false, if◌then◌else◌};
 ghost use Rattle.qvm_io.specs.Causes.{next_count, Rose, NeverFalls};
-ghost use Rattle.qvm_io.specs.Transfer.{answered_end};
+ghost use Rattle.qvm_io.specs.Transfer.{answered_end, ends_after};
 ghost use Rattle.qvm_io.specs.MemSource.{read_size, read_answer};
 
 use crate::errors::Failed;
 use crate::outside::Source;
+use crate::tally::Tally;
 use std::marker::Model;
 
 /// A source of bytes in memory, which gives them in pieces and fails as it was told.
@@ -18,6 +19,7 @@ pub struct MemSource {
     reads: u64,
     faults: u64,
     saw_end: bool,
+    ends: Tally,
 }
 
 impl Model for MemSource {
@@ -33,6 +35,7 @@ impl Model for MemSource {
       reads = s.reads;
       faults = s.faults;
       saw_end = s.saw_end;
+      ends = s.ends.count;
     } };
 
     ghost invariant = { λ s. s.position ≤ length s.bytes.items };
@@ -49,6 +52,7 @@ impl MemSource {
         ensures reads { result.reads ≡ 0 }
         ensures faults { result.faults ≡ 0 }
         ensures saw_end { result.saw_end ≡ false }
+        ensures ends { result.ends ≡ 0 }
     {
         MemSource {
             bytes,
@@ -59,6 +63,7 @@ impl MemSource {
             reads: 0,
             faults: 0,
             saw_end: false,
+            ends: Tally::new(),
         }
     }
 
@@ -94,6 +99,8 @@ impl Source for MemSource {
 
     ghost saw_end = { λ s. s.saw_end };
 
+    ghost ends = { λ s. s.ends };
+
     ghost faults = { λ s. s.faults };
 
     fn read(&mut self, buf: &mut [u8]) -> Result<usize, Failed>
@@ -114,6 +121,7 @@ impl Source for MemSource {
         ensures cause { OnErr result (Rose self.old.faults self.new.faults) }
         ensures count { NeverFalls self.old.faults self.new.faults }
         ensures last_read { self.new.saw_end ≡ answered_end result }
+        ensures ends { self.new.ends ≡ ends_after self.old.ends result }
     {
         self.reads = self.reads.saturating_add(1);
         if self.failing.contains(&self.reads) {
@@ -126,6 +134,7 @@ impl Source for MemSource {
         self.position += n;
         self.next_piece = self.next_piece.saturating_add(1);
         self.saw_end = n == 0;
+        self.ends.note(self.saw_end);
         Ok(n)
     }
 }

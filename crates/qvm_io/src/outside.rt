@@ -1,7 +1,7 @@
 ghost use Rattle.std.specs.Prelude.{◌≡◌, ℕ, ◌<◌, ◌≤◌, List, [], ◌∷◌, length, take, Bool, Option, IfOk, OnOk, OnErr};
 ghost use Rattle.std.specs.Io.KnownBytes.{Appends, Consumes, IsAtEnd, Keeps};
 ghost use Rattle.qvm_io.specs.Causes.{Rose, Stays, NeverFalls};
-ghost use Rattle.qvm_io.specs.Transfer.{answered_end};
+ghost use Rattle.qvm_io.specs.Transfer.{answered_end, ends_after};
 
 use crate::errors::Failed;
 
@@ -12,6 +12,9 @@ pub trait Source {
 
     /// Whether the last read answered 0. A new source's didn't.
     ghost saw_end: { Self → Bool };
+
+    /// How often a read has answered 0, without bound. A new source's hasn't.
+    ghost ends: { Self → ℕ };
 
     /// How many reads have failed, up to the end of 64 bits.
     ghost faults: { Self → ℕ };
@@ -25,6 +28,7 @@ pub trait Source {
             Consumes (bytes_left self.old) (bytes_left self.new) (take n buf.new)) }
         ensures end { IfOk result (λ n. n ≡ 0 → IsAtEnd (bytes_left self.new)) }
         ensures last_read { saw_end self.new ≡ answered_end result }
+        ensures ends { ends self.new ≡ ends_after (ends self.old) result }
 
         ensures none_lost { OnErr result (Keeps (bytes_left self.old) (bytes_left self.new)) }
         ensures steady { OnOk result (Stays (faults self.old) (faults self.new)) }

@@ -2,6 +2,7 @@ ghost use Rattle.std.specs.Prelude.{◌≡◌, false};
 
 use crate::errors::Failed;
 use crate::outside::Source;
+use crate::tally::Tally;
 use std::io::Read;
 
 /// A reader of std as a source. It tells the bytes that the reader tells: of standard input, a file or
@@ -11,6 +12,7 @@ pub struct StdSource<R> {
     reader: R,
     faults: u64,
     saw_end: bool,
+    ends: Tally,
 }
 
 impl<R: Read> StdSource<R> {
@@ -18,12 +20,14 @@ impl<R: Read> StdSource<R> {
     pub fn new(reader: R) -> StdSource<R>
         ensures bytes_left { ⟦<StdSource<R> as Source>⟧.bytes_left result ≡ R.remaining reader }
         ensures saw_end { ⟦<StdSource<R> as Source>⟧.saw_end result ≡ false }
+        ensures ends { ⟦<StdSource<R> as Source>⟧.ends result ≡ 0 }
         ensures faults { ⟦<StdSource<R> as Source>⟧.faults result ≡ 0 }
     {
         StdSource {
             reader,
             faults: 0,
             saw_end: false,
+            ends: Tally::new(),
         }
     }
 }
@@ -33,12 +37,15 @@ impl<R: Read> Source for StdSource<R> {
 
     ghost saw_end = { λ s. s.saw_end };
 
+    ghost ends = { λ s. s.ends.count };
+
     ghost faults = { λ s. s.faults };
 
     fn read(&mut self, buf: &mut [u8]) -> Result<usize, Failed> {
         match self.reader.read(buf) {
             Ok(n) => {
                 self.saw_end = n == 0;
+                self.ends.note(self.saw_end);
                 Ok(n)
             }
             Err(_) => {

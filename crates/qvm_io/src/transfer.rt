@@ -1,7 +1,7 @@
 ghost use Rattle.std.specs.Prelude.{◌≡◌, ◌==◌, true, false, ◌+◌, ◌-◌, ℕ, ◌<◌, ◌≤◌, ◌++◌, length, take, vec_len, IfOk, IfSome, OnOk, OnErr, IsErrOf};
 ghost use Rattle.std.specs.Io.KnownBytes.{Appends, Consumes, IsAtEnd};
 ghost use Rattle.qvm_io.specs.Causes.{Rose, Stays, NeverFalls};
-ghost use Rattle.qvm_io.specs.Transfer.{LosesFront, GainsFront};
+ghost use Rattle.qvm_io.specs.Transfer.{ends_after, EndsOnceAtMost, LosesFront, GainsFront};
 
 use crate::errors::{Failed, ReadError};
 use crate::outside::{Sink, Source};
@@ -31,6 +31,9 @@ pub fn read_all<S: Source>(
     ensures front { OnErr result
         (LosesFront (S.bytes_left source.old) (S.bytes_left source.new) bound) }
     ensures no_end { OnErr result (S.saw_end source.new ≡ false) }
+
+    // It doesn't read on behind the end.
+    ensures one_end { EndsOnceAtMost (S.ends source.old) (S.ends source.new) (S.saw_end source.new) }
     ensures steady { OnOk result (Stays (S.faults source.old) (S.faults source.new)) }
     ensures no_memory { IsErrOf result ReadError.OutOfMemory → Stays (S.faults source.old) (S.faults source.new) }
     ensures cause { IsErrOf result ReadError.Failed → Rose (S.faults source.old) (S.faults source.new) }
@@ -59,6 +62,7 @@ fn read_more<S: Source>(source: &mut S, text: &mut Vec<u8>, room: usize) -> Resu
     ensures front { OnErr result
         (LosesFront (S.bytes_left source.old) (S.bytes_left source.new) room) }
     ensures no_end { OnErr result (S.saw_end source.new ≡ false) }
+    ensures ends { S.ends source.new ≡ ends_after (S.ends source.old) result }
     ensures steady { OnOk result (Stays (S.faults source.old) (S.faults source.new)) }
     ensures no_memory { IsErrOf result ReadError.OutOfMemory → Stays (S.faults source.old) (S.faults source.new) }
     ensures cause { IsErrOf result ReadError.Failed → Rose (S.faults source.old) (S.faults source.new) }
