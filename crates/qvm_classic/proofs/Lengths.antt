@@ -66,3 +66,6 @@ length-effect line (classic.Compare comparison kind target left right) bits new 
 pub kept : (result : Result (Unit {0}) ClassicFault) (line : ℕ) (i : Classic) (old new : List Bool) → ClassicFits i (length old) → Does result (effect line i old) old new → length new ≡ length old
 kept (Ok d) line i old new f h = length-effect line i old new f h
 kept (Err x) line i old new f h = ap length h.1
+
+pub length_of_value : (kind : CellType) (first : ℕ) (z : ℤ) (bits : List Bool) → first + size kind ≤ length bits → length (with_value kind first z bits) ≡ length bits
+length_of_value kind first z bits h = length-with_word kind first (word_of z) bits h
