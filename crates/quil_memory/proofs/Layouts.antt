@@ -36,10 +36,10 @@ each_more P rs r each here i q e = by (nat_lt i (length rs)) refl
 
 pub layout_more : (l : Regions) (rs : List Region) (r : Region) (bits : ℕ) → IsLayout l → l.regions ≡ rs → bits ≤ most_bits → l.bits ≤ bits → r.first + width r.kind r.length ≤ bits → r.offset ≤ r.first → IsLayout (record { regions = rs ++ r ∷ []; bits = bits })
 layout_more l rs r bits h is few more within below = record {
-    few = few;
-    within = each_more (λ q. q.first + width q.kind q.length ≤ bits) rs r (λ i q e. omega (arith, h.within i q (ap (λ (xs : List Region). slice_get xs i) is ∙ e), more)) within;
-    below = each_more (λ q. q.offset ≤ q.first) rs r (λ i q e. h.below i q (ap (λ (xs : List Region). slice_get xs i) is ∙ e)) below
-  }
+  few = few;
+  within = each_more (λ q. q.first + width q.kind q.length ≤ bits) rs r (λ i q e. omega (arith, h.within i q (ap (λ (xs : List Region). slice_get xs i) is ∙ e), more)) within;
+  below = each_more (λ q. q.offset ≤ q.first) rs r (λ i q e. h.below i q (ap (λ (xs : List Region). slice_get xs i) is ∙ e)) below;
+}
 
 -- the bits of an offset, and then of the cells, where they are few
 none_over : (a b : ℕ) → None ≡ (if nat_lt a b then None else Some b) → a < b

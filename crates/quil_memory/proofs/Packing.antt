@@ -53,8 +53,9 @@ module _ (count place byte : ℕ) (b : Bool) (bytes : List ℕ) where
       → (i : ℕ) → i ≢ place → packed_bit (set bytes (place / 8) byte) i ≡ packed_bit bytes i
   elsewhere inside others i e = elim (eqb_tells (i / 8) (place / 8)) as (λ _. packed_bit (set bytes (place / 8) byte) i ≡ packed_bit bytes i) [
     | inl s ↦ ap (λ n. bit_at (get_or (set bytes (place / 8) byte) n 0) (i % 8) == 1) s.1 ∙ ap (λ n. bit_at n (i % 8) == 1) (get_or-set_same bytes (place / 8) byte 0 inside)
-      ∙ ap (λ n. n == 1) (others (i % 8) (omega arith) (λ d. e (omega (arith, s.1, d)))) ∙ ap (λ n. bit_at (get_or bytes n 0) (i % 8) == 1) (sym s.1)
-    | inr s ↦ ap (λ n. bit_at n (i % 8) == 1) (get_or-set_other bytes (place / 8) (i / 8) byte 0 s.1) ]
+        ∙ ap (λ n. n == 1) (others (i % 8) (omega arith) (λ d. e (omega (arith, s.1, d)))) ∙ ap (λ n. bit_at (get_or bytes n 0) (i % 8) == 1) (sym s.1)
+    | inr s ↦ ap (λ n. bit_at n (i % 8) == 1) (get_or-set_other bytes (place / 8) (i / 8) byte 0 s.1)
+  ]
 
   pub unpacked_with : count ≤ length bytes * 8 → place < count → bit_at byte (place % 8) ≡ (if b then 1 else 0)
       → ((other : ℕ) → other < 8 → other ≢ place % 8 → bit_at byte other ≡ bit_at (get_or bytes (place / 8) 0) other)

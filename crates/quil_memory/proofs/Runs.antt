@@ -69,8 +69,8 @@ with_bits_from first count n bits new h e =
     let is : new ≡ take first bits ++ (n % 2 == 1) ∷ drop (suc first) bits = e ∙ ap (λ k. take first bits ++ (n % 2 == 1) ∷ drop k bits) one in
     let more : suc first + count ≡ first + suc count = omega arith in
     let rest : drop (suc first + count) new ≡ drop (first + suc count) bits
-      = sym (drop-drop count (suc first) new) ∙ ap (λ xs. drop count (drop (suc first) xs)) is ∙ ap (drop count) (behind (n % 2 == 1) first bits (drop (suc first) bits) h)
-        ∙ drop-drop count (suc first) bits ∙ ap (λ k. drop k bits) more in
+    = sym (drop-drop count (suc first) new) ∙ ap (λ xs. drop count (drop (suc first) xs)) is ∙ ap (drop count) (behind (n % 2 == 1) first bits (drop (suc first) bits) h)
+    ∙ drop-drop count (suc first) bits ∙ ap (λ k. drop k bits) more in
     let tail = drop (first + suc count) bits in
     ap (λ k. take k new ++ bits_of count (n / 2) ++ drop (k + count) new) one
     ∙ ap (λ xs. take (suc first) new ++ bits_of count (n / 2) ++ xs) rest
