@@ -1,6 +1,6 @@
 //! Declarations of regions.
 
-ghost use Rattle.std.specs.Prelude.{◌≡◌, [], ◌∷◌, ◌++◌, List, OnOk};
+ghost use Rattle.std.specs.Prelude.{◌≡◌, [], ◌∷◌, ◌++◌, List, OnOk, OnErr};
 
 use crate::cell_type::CellType;
 use crate::name::Name;
@@ -48,7 +48,8 @@ impl Offsets {
 
     /// Adds a part behind the others.
     pub fn push(&mut self, part: Offset) -> Result<(), AllocFailed<Offset>>
-        ensures { OnOk result (self.new ≡ self.old ++ part ∷ []) }
+        ensures pushed { OnOk result (self.new ≡ self.old ++ part ∷ []) }
+        ensures unchanged { OnErr result (self.new ≡ self.old) }
     {
         self.parts.push(part)
     }

@@ -30,8 +30,15 @@ impl Model for Memory {
 }
 
 impl Memory {
-    /// So many bits, all 0.
-    pub fn zeros(alloc: Global, bits: u32) -> Result<Memory, AllocError>
+    /// Memory of a layout, all bits 0.
+    pub fn zeros(alloc: Global, layout: &Layout) -> Result<Memory, AllocError>
+        ensures { IfOk result (λ memory. memory ≡ replicate layout.now.bits false) }
+    {
+        Memory::of_bits(alloc, layout.bits())
+    }
+
+    // So many bits, all 0.
+    pub(crate) fn of_bits(alloc: Global, bits: u32) -> Result<Memory, AllocError>
         ensures { IfOk result (λ memory. memory ≡ replicate bits false) }
     {
         let bytes = Vec::from_elem(alloc, 0u8, bits.div_ceil(8) as usize)?;

@@ -1,12 +1,11 @@
 -- Results of checked arithmetic.
-use Rattle.std.proofs.Common.{◌≡◌, ◌≢◌, ℕ, zero, suc, subst, ◌∙◌, ◌+◌, ◌-◌, ◌<◌, ◌≤◌, ◌^◌, Bool, true, false, ◌&&◌, ℤ, pos, negsuc, refl, ap, sym, arith, w64, Option, Some, None, List, if◌then◌else◌}
+use Rattle.std.proofs.Common.{◌≡◌, ◌≢◌, ℕ, zero, suc, subst, ◌∙◌, ◌-◌, ◌<◌, ◌^◌, Bool, true, false, ◌&&◌, ℤ, pos, negsuc, refl, ap, arith, w64, Option, Some, None, List, if◌then◌else◌}
 use Rattle.std.specs.Prelude.{FitsSigned, SomeIff, int_div, Result, Ok, Err}
 use Rattle.std.specs.Int.{CanDivide, IsNonZero}
 use Rattle.std.specs.Ordering.{int_eq}
 use Rattle.std.specs.Bool.{Decides}
 use Rattle.std.proofs.lemmas.Bool.{le-leb, lt-leb}
 use Rattle.std.proofs.lemmas.Bool.Decides.{Decides-int_eq}
-use Rattle.std.proofs.lemmas.Grind.{common_steps}
 use Rattle.quil_memory.specs.declared.cell_type.CellType.TheVariants.{Integer, Real}
 use Rattle.quil_memory.specs.declared.cell_type.CellType.{CellType}
 use Rattle.quil_memory.specs.CellTypes.{in_type}
@@ -17,7 +16,7 @@ use Rattle.quil_code.specs.declared.classic.Cell.{Cell}
 use Rattle.quil_code.specs.declared.fault.ClassicFault.{ClassicFault}
 use Rattle.quil_code.specs.declared.fault.ClassicFault.TheVariants.{Overflow}
 use Rattle.quil_code.specs.Operands.{arithmetic_type}
-use Rattle.quil_code.specs.Classic.{Effect, with_result}
+use Rattle.quil_code.specs.Classic.{with_result}
 use Rattle.qvm_classic.specs.Places.{Does}
 use Rattle.qvm_classic.specs.Checked.{if_in_type, with_checked}
 

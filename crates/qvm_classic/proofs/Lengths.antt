@@ -1,14 +1,13 @@
 -- An instruction keeps the number of bits, and its fault keeps them all.
-use Rattle.std.proofs.Common.{◌≡◌, ℕ, suc, ◌+◌, ◌-◌, ◌*◌, ◌<◌, ◌≤◌, Bool, true, false, ◌&&◌, List, length, take, drop, ◌++◌, ℤ, pos, negsuc, refl, ap, arith, sym, ◌∙◌, length-append, length-take, length-drop}
+use Rattle.std.proofs.Common.{◌≡◌, ℕ, suc, ◌+◌, ◌*◌, ◌≤◌, Bool, true, false, ◌&&◌, List, length, ℤ, pos, negsuc, refl, ap, arith, ◌∙◌}
 use Rattle.std.proofs.Math.Nat.{mul-le-mul_right}
-use Rattle.std.specs.Prelude.{Result, Ok, Err, int_le, int_lt, nat_abs, neg_ℤ, ◌*ℤ◌, int_div, if◌then◌else◌}
-use Rattle.std.specs.Ordering.{int_eq}
+use Rattle.std.specs.Prelude.{Result, Ok, Err, int_le, int_lt, nat_abs, if◌then◌else◌}
 use Rattle.std.proofs.lemmas.Bool.{leb-true}
 use Rattle.std.proofs.lemmas.Grind.{common_steps}
 use Rattle.quil_memory.specs.declared.cell_type.CellType.{CellType}
 use Rattle.quil_memory.specs.declared.cell_type.CellType.TheVariants as cell_type
-use Rattle.quil_memory.specs.CellTypes.{size, in_type}
-use Rattle.quil_memory.specs.Cells.{with_word, with_value, word_at, word_of, value_at, bits_of}
+use Rattle.quil_memory.specs.CellTypes.{size}
+use Rattle.quil_memory.specs.Cells.{with_word, with_value, word_of, value_at}
 use Rattle.quil_memory.proofs.Runs.{length-bits_of}
 use Rattle.quil_code.specs.declared.classic.Classic.{Classic}
 use Rattle.quil_code.specs.declared.classic.Classic.TheVariants as classic
@@ -16,7 +15,7 @@ use Rattle.quil_code.specs.declared.classic.ProductOperation.TheVariants.{Mul, D
 use Rattle.quil_code.specs.declared.fault.ClassicFault.{ClassicFault}
 use Rattle.quil_code.specs.Operands.{arithmetic_type, bitwise_type}
 use Rattle.quil_code.specs.Program.{ClassicFits}
-use Rattle.quil_code.specs.Classic.{Effect, effect, span_bit, source_value, sum_of}
+use Rattle.quil_code.specs.Classic.{Effect, effect, span_bit}
 use Rattle.qvm_classic.specs.Places.{Does}
 
 pub length-with_word : (kind : CellType) (first n : ℕ) (bits : List Bool) → first + size kind ≤ length bits → length (with_word kind first n bits) ≡ length bits

@@ -10,7 +10,7 @@ use quil_code::{
     Arithmetic, BitOperation, Bitwise, Cell, Classic, Comparison, Fault, ProductOperation, Source,
     Span, SumOperation,
 };
-use quil_memory::{CellType, Memory};
+use quil_memory::{CellType, Claim, Layout, LayoutFault, Memory, Name, layout};
 use std::alloc::{AllocError, Global};
 use std::test::*;
 
@@ -268,15 +268,30 @@ fn instruction(text: &str) -> Option<Classic>
     }
 }
 
+fn three_integers(alloc: Global) -> Result<Layout, LayoutFault> {
+    let claim = Claim {
+        name: Name::new(alloc, b"x")?,
+        kind: CellType::Integer,
+        length: 3,
+        share: None,
+        line: 1,
+    };
+    layout(alloc, &[claim])
+}
+
 #[tactic(auto, using(crate::proofs::Lengths::length_of_value))]
-fn memory_of(alloc: Global, text: &str) -> Result<Memory, AllocError>
+fn memory_of(alloc: Global, text: &str) -> Result<Memory, Fail>
     ensures { IfOk result (λ memory. length memory ≡ 192) }
 {
     let mut words = text.split(' ');
     let first = words.next().unwrap_or("").parse().unwrap_or(0);
     let second = words.next().unwrap_or("").parse().unwrap_or(0);
     let third = words.next().unwrap_or("").parse().unwrap_or(0);
-    let mut memory = Memory::zeros(alloc, 192)?;
+    let layout = three_integers(alloc).ok().ok_or("three INTEGERs have a layout")?;
+    let mut memory = Memory::zeros(alloc, &layout)?;
+    if layout.bits() != 192 {
+        return Err(Fail::from("three INTEGERs have 192 bits"));
+    }
     memory.set_value(CellType::Integer, 0, first);
     memory.set_value(CellType::Integer, 64, second);
     memory.set_value(CellType::Integer, 128, third);
@@ -309,21 +324,28 @@ fn told(alloc: Global, row: &str) -> Result<String, Fail> {
 
 const ROWS: &str = "\
 MOVE BIT 0 #1 : 0 0 0 => 1 0 0
+MOVE BIT 0 #0 : 1 0 0 => 0 0 0
 MOVE BIT 63 #1 : 0 0 0 => -9223372036854775808 0 0
 MOVE OCTET 8 #255 : 0 0 0 => 65280 0 0
 MOVE OCTET 0 #0 : -1 0 0 => -256 0 0
 MOVE INTEGER 0 #-9223372036854775808 : 0 0 0 => -9223372036854775808 0 0
+MOVE INTEGER 0 #9223372036854775807 : 0 0 0 => 9223372036854775807 0 0
+MOVE REAL 64 #-9223372036854775808 : 0 0 0 => 0 -9223372036854775808 0
 MOVE REAL 64 #9223372036854775807 : 0 0 0 => 0 9223372036854775807 0
 MOVE INTEGER 0 64 : 1 -7 0 => -7 -7 0
 EXCHANGE BIT 0 1 : 1 0 0 => 2 0 0
 EXCHANGE INTEGER 0 64 : 3 -4 0 => -4 3 0
+EXCHANGE REAL 0 128 : 8 0 -8 => -8 0 8
 EXCHANGE OCTET 0 4 : 801 0 0 => 530 0 0
 ADD INTEGER 0 #1 : 9223372036854775806 0 0 => 9223372036854775807 0 0
 ADD INTEGER 0 #1 : 9223372036854775807 0 0 => 29 Overflow line=5
+ADD INTEGER 0 #-1 : -9223372036854775808 0 0 => 29 Overflow line=5
+ADD REAL 0 #1 : 9223372036854775807 0 0 => 29 Overflow line=5
 ADD REAL 0 64 : 6 -8 0 => -2 -8 0
 ADD REAL 0 #-1 : -9223372036854775808 0 0 => 29 Overflow line=5
 SUB INTEGER 0 64 : 5 7 0 => -2 7 0
 SUB INTEGER 0 64 : 0 -9223372036854775808 0 => 29 Overflow line=5
+SUB REAL 0 #1 : -9223372036854775808 0 0 => 29 Overflow line=5
 SUB REAL 0 0 : 9 0 0 => 0 0 0
 MUL 0 64 : -3 7 0 => -21 7 0
 MUL 0 #2 : 4611686018427387904 0 0 => 29 Overflow line=5
@@ -334,6 +356,9 @@ DIV 0 #-2 : -7 0 0 => 3 0 0
 DIV 0 64 : 7 0 0 => 30 ZeroDivide line=5
 DIV 0 #-1 : -9223372036854775808 0 0 => 29 Overflow line=5
 NEG INTEGER 0 : 5 0 0 => -5 0 0
+NEG INTEGER 0 : -9223372036854775808 0 0 => 29 Overflow line=5
+NEG INTEGER 0 : 9223372036854775807 0 0 => -9223372036854775807 0 0
+NEG REAL 64 : 0 3 0 => 0 -3 0
 NEG REAL 64 : 0 -9223372036854775808 0 => 29 Overflow line=5
 NOT BIT 1 : 3 0 0 => 1 0 0
 NOT BIT 127 : 0 0 0 => 0 -9223372036854775808 0
@@ -342,25 +367,45 @@ NOT OCTET 0 : 255 0 0 => 0 0 0
 NOT INTEGER 0 : 0 0 0 => -1 0 0
 AND BIT 0 1 : 1 0 0 => 0 0 0
 AND OCTET 0 #12 : 10 0 0 => 8 0 0
+AND INTEGER 0 64 : -1 6 0 => 6 6 0
+IOR BIT 0 #1 : 0 0 0 => 1 0 0
+IOR OCTET 0 #240 : 15 0 0 => 255 0 0
 IOR INTEGER 0 64 : 12 10 0 => 14 10 0
+XOR BIT 0 #1 : 1 0 0 => 0 0 0
+XOR OCTET 0 #255 : 15 0 0 => 240 0 0
 XOR INTEGER 0 #-1 : 5 0 0 => -6 0 0
+CONVERT BIT 0 BIT 64 : 0 1 0 => 1 1 0
+CONVERT BIT 0 INTEGER 64 : 0 1 0 => 1 1 0
+CONVERT BIT 0 INTEGER 64 : 0 -1 0 => 29 Overflow line=5
+CONVERT OCTET 0 BIT 64 : 7 1 0 => 1 1 0
+CONVERT OCTET 0 OCTET 64 : 0 255 0 => 255 255 0
+CONVERT INTEGER 0 OCTET 64 : -1 255 0 => 255 255 0
+CONVERT INTEGER 0 INTEGER 64 : 0 -9223372036854775808 0 => -9223372036854775808 -9223372036854775808 0
 CONVERT OCTET 0 INTEGER 64 : 0 255 0 => 255 255 0
 CONVERT OCTET 0 INTEGER 64 : 7 256 0 => 29 Overflow line=5
 CONVERT OCTET 0 INTEGER 64 : 7 -1 0 => 29 Overflow line=5
 CONVERT BIT 0 OCTET 64 : 0 2 0 => 29 Overflow line=5
 CONVERT INTEGER 0 BIT 64 : 5 1 0 => 1 1 0
 LOAD INTEGER 0 1/64/1 128 : 0 42 0 => 42 42 0
+LOAD BIT 0 3/64/64 128 : 0 8 3 => 1 8 3
+LOAD REAL 0 1/64/1 128 : 0 -8 0 => -8 -8 0
 LOAD OCTET 0 2/64/8 128 : 0 72057594037927936 7 => 1 72057594037927936 7
 LOAD INTEGER 0 1/64/1 128 : 0 42 1 => 14 OutOfRange index=1 length=1 line=5 region=1
 LOAD BIT 0 3/64/64 128 : 0 0 -1 => 14 OutOfRange index=-1 length=64 line=5 region=3
 STORE INTEGER 1/64/1 128 #-5 : 0 0 0 => 0 -5 0
 STORE INTEGER 1/128/1 128 0 : 7 0 0 => 7 0 7
+STORE BIT 3/64/64 128 #1 : 0 0 63 => 0 -9223372036854775808 63
+STORE REAL 1/64/1 128 #-8 : 0 0 0 => 0 -8 0
+STORE INTEGER 1/64/1 128 #5 : 0 0 -1 => 14 OutOfRange index=-1 length=1 line=5 region=1
 STORE OCTET 2/64/8 128 #255 : 0 0 1 => 0 65280 1
 STORE OCTET 2/64/8 128 #255 : 0 0 8 => 14 OutOfRange index=8 length=8 line=5 region=2
 EQ 0 OCTET 64 #255 : 0 255 0 => 1 255 0
+EQ 0 BIT 64 #1 : 1 0 0 => 0 0 0
 GT 0 INTEGER 64 #5 : 1 5 0 => 0 5 0
 GE 64 INTEGER 64 #6 : 0 6 0 => 0 7 0
 LT 0 INTEGER 64 128 : 0 -1 0 => 1 -1 0
+LT 0 INTEGER 64 #0 : 1 0 0 => 0 0 0
+LE 0 OCTET 64 #255 : 0 255 0 => 1 255 0
 LE 0 REAL 64 #-8 : 1 -7 0 => 0 -7 0
 GT 0 REAL 64 #-8 : 0 -7 0 => 1 -7 0
 ";

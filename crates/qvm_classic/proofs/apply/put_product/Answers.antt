@@ -1,4 +1,4 @@
-use Rattle.std.proofs.Common.{to_z-of_z, of_z, w64, ap, refl, ◌*ℤ◌}
+use Rattle.std.proofs.Common.{to_z-of_z, refl, ◌*ℤ◌}
 use Rattle.quil_memory.specs.declared.cell_type.CellType.TheVariants as cell_type
 use Rattle.quil_code.specs.declared.classic.Arithmetic.TheVariants.{Integer}
 use Rattle.qvm_classic.proofs.Fits.{put_result}
