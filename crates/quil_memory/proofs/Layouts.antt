@@ -1,5 +1,5 @@
 -- A layout with one more region, and the faults of one with SHARING.
-use Rattle.std.proofs.Common.{◌≡◌, refl, sym, ◌∙◌, ap, subst, ℕ, ◌+◌, ◌-◌, ◌*◌, ◌%◌, ◌<◌, ◌≤◌, ◌⊎◌, inl, inr, ◌==◌, nat_lt, Bool, true, false, not, cond, List, [], ◌∷◌, ◌++◌, length, get_or, slice_get, Option, Some, None, is_some, is_none, fold, Result, Ok, Err, IsErrAnd, arith, if◌then◌else◌}
+use Rattle.std.proofs.Common.{◌≡◌, refl, sym, ◌∙◌, ap, subst, ℕ, ◌+◌, ◌-◌, ◌%◌, ◌<◌, ◌≤◌, inl, inr, ◌==◌, nat_lt, Bool, true, false, not, List, [], ◌∷◌, ◌++◌, length, get_or, slice_get, Option, Some, None, is_some, fold, Result, Ok, Err, IsErrAnd, arith, if◌then◌else◌}
 use Rattle.std.proofs.lemmas.Bool.{ltb-true, ltb-false, lt-ltb, le-ltb, cond-true, cond-false}
 use Rattle.std.proofs.Math.ListN.{get_or-append}
 use Rattle.std.proofs.Math.Nat.{mul-le-mul_right}
@@ -12,7 +12,7 @@ use Rattle.quil_memory.specs.declared.region.Region.{Region}
 use Rattle.quil_memory.specs.declared.fault.LayoutFault.{LayoutFault}
 use Rattle.quil_memory.specs.declared.fault.LayoutFault.TheVariants as fault
 use Rattle.quil_memory.specs.CellTypes.{size}
-use Rattle.quil_memory.specs.Layout.{Regions, IsLayout, Gives, first_bit, width, most_bits, skipped_bits, with_region, with_base, with_bits_of, with_new, with_claim, with_next, region_named}
+use Rattle.quil_memory.specs.Layout.{Regions, IsLayout, Gives, first_bit, width, most_bits, skipped_bits, with_region, with_base, with_new, with_claim, with_next, region_named}
 
 -- what holds of each region holds of each with one more
 each_more : (P : Region → Type 0) (rs : List Region) (r : Region) → ((i : ℕ) (q : Region) → slice_get rs i ≡ Some q → P q) → P r → (i : ℕ) (q : Region) → slice_get (rs ++ r ∷ []) i ≡ Some q → P q

@@ -1,5 +1,5 @@
 -- Values of cells that are written.
-use Rattle.std.proofs.Common.{◌≡◌, refl, sym, ◌∙◌, ap, ℕ, zero, suc, ◌+◌, ◌-◌, ◌*◌, ◌^◌, ◌<◌, ◌≤◌, ◌⊎◌, inl, inr, nat_lt, Bool, true, false, List, length, ℤ, pos, negsuc, int_le, IsTrue, ◌&&◌, w64, ◌-ℤ◌, arith, if◌then◌else◌}
+use Rattle.std.proofs.Common.{◌≡◌, refl, ◌∙◌, ap, ℕ, suc, ◌+◌, ◌-◌, ◌^◌, ◌<◌, ◌≤◌, ◌⊎◌, inl, inr, nat_lt, Bool, true, false, List, length, ℤ, pos, negsuc, int_le, IsTrue, ◌&&◌, w64, ◌-ℤ◌, arith}
 use Rattle.std.proofs.lemmas.Bool.{lt-ltb, le-ltb, leb-true, cond-true, cond-false}
 use Rattle.std.proofs.lemmas.Int.{ints, of_z-to_z}
 use mir.Val.{of_z, to_z}
@@ -7,8 +7,8 @@ use lib.Signed.{mag}
 use Rattle.quil_memory.specs.declared.cell_type.CellType.{CellType}
 use Rattle.quil_memory.specs.declared.cell_type.CellType.TheVariants as cell_type
 use Rattle.quil_memory.specs.CellTypes.{size, least, greatest, InType}
-use Rattle.quil_memory.specs.Cells.{number_of, bits_of, word_at, with_word, value_at, with_value, word_of, value_of, signed}
-use Rattle.quil_memory.proofs.Runs.{with_bits, run_written, run_below, run_above, number_of-bits_of}
+use Rattle.quil_memory.specs.Cells.{number_of, word_at, with_word, value_at, with_value, word_of, value_of, signed}
+use Rattle.quil_memory.proofs.Runs.{run_written, run_below, run_above, number_of-bits_of}
 
 pub apart : (kind other : CellType) (first second n : ℕ) (bits : List Bool) → first + size kind ≤ length bits → (second + size other ≤ first) ⊎ (first + size kind ≤ second) → word_at other second (with_word kind first n bits) ≡ word_at other second bits
 apart kind other first second n bits h (inl k) = ap number_of (run_below first (size kind) second (size other) n bits h k)

@@ -1,5 +1,8 @@
 //! Layouts and their refusals, cells at both ends of a memory, and texts of angles, as the rules give them by hand.
 
+ghost use Rattle.std.specs.Prelude.{◌≡◌, ◌+◌, ◌≤◌, length};
+ghost use Rattle.quil_memory.specs.CellTypes.{size};
+
 use crate::*;
 use std::alloc::{AllocError, Global};
 use std::process::Abort;
@@ -150,19 +153,26 @@ a BIT 1, b BIT 18446744073709551613 => 13 18446744073709551614
     Ok(())
 }
 
+// The number of the region of a name, or the refusal of the declarations.
+fn found_text(alloc: Global, claims: &[Claim], name: &str) -> Said {
+    let layout = match layout(alloc, claims) {
+        Err(fault) => return fault_text(alloc, &fault),
+        Ok(layout) => layout,
+    };
+    let text = match layout.find(name.as_bytes()) {
+        Some(region) => format!(in alloc; "{region}"),
+        None => format!(in alloc; "none"),
+    };
+    Ok(text?)
+}
+
 #[test]
 fn regions_are_found_by_their_names(rt: HostRuntime) -> Result<(), Fail> {
     let alloc = rt.alloc();
     let claims = claims(alloc, "ro BIT 2, theta REAL 3")?;
-    let found = layout(alloc, &claims);
-    assert!(rt; matches!(&found, Ok(_)));
-    let Ok(layout) = found else { return Ok(()) };
-    assert_eq!(rt; layout.find(b"ro"), Some(0));
-    assert_eq!(rt; layout.find(b"theta"), Some(1));
-    assert_eq!(rt; layout.find(b"Ro"), None);
-    assert_eq!(rt; layout.count(), 2);
-    assert!(rt; layout.kind(1) == CellType::Real);
-    assert_eq!(rt; layout.length(1), 3);
+    assert_eq!(rt; found_text(alloc, &claims, "ro")?.as_str(), "0");
+    assert_eq!(rt; found_text(alloc, &claims, "theta")?.as_str(), "1");
+    assert_eq!(rt; found_text(alloc, &claims, "Ro")?.as_str(), "none");
     Ok(())
 }
 
@@ -178,14 +188,22 @@ fn very_many_regions(rt: HostRuntime) -> Result<(), Fail> {
     Ok(())
 }
 
+#[tactic(auto, using(crate::proofs::Runs::length_with_bits))]
+fn put(memory: &mut Memory, kind: CellType, first: u32, value: i64)
+    requires { first + size kind ≤ length memory.old }
+    ensures { length memory.new ≡ length memory.old }
+{
+    memory.set_value(kind, first, value);
+}
+
 #[test]
 fn cells_at_both_ends(rt: HostRuntime) -> Result<(), Fail> {
     let alloc = rt.alloc();
     let mut memory = Memory::zeros(alloc, 65_536)?;
-    memory.set_value(CellType::Integer, 0, -2);
-    memory.set_value(CellType::Real, 65_472, i64::MIN);
-    memory.set_value(CellType::Octet, 64, 129);
-    memory.set_value(CellType::Bit, 72, 1);
+    put(&mut memory, CellType::Integer, 0, -2);
+    put(&mut memory, CellType::Real, 65_472, i64::MIN);
+    put(&mut memory, CellType::Octet, 64, 129);
+    put(&mut memory, CellType::Bit, 72, 1);
     assert_eq!(rt; memory.value(CellType::Integer, 0), -2);
     assert_eq!(rt; memory.value(CellType::Bit, 0), 0);
     assert_eq!(rt; memory.value(CellType::Bit, 1), 1);
@@ -196,7 +214,6 @@ fn cells_at_both_ends(rt: HostRuntime) -> Result<(), Fail> {
     assert_eq!(rt; memory.value(CellType::Octet, 72), 1);
     assert_eq!(rt; memory.value(CellType::Real, 65_472), i64::MIN);
     assert_eq!(rt; memory.value(CellType::Bit, 65_535), 1);
-    assert_eq!(rt; memory.value(CellType::Integer, 65_408), 0);
     Ok(())
 }
 

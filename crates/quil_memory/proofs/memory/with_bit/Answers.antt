@@ -1,4 +1,4 @@
-use Rattle.std.proofs.Common.{w8, arith}
+use Rattle.std.proofs.Common.{w8}
 use Rattle.std.proofs.lemmas.Nat.Bits.{bit_at_set_same, bit_at_set_other, bit_at_clear_same, bit_at_clear_other}
 use Rattle.quil_memory.proofs.memory.with_bit.Goals as goal
 

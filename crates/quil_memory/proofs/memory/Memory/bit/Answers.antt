@@ -1,7 +1,6 @@
-use Rattle.std.proofs.Common.{◌≡◌, ap, ◌∙◌, sym, length, slice_get, get_or, List, Bool, ◌==◌, ◌/◌, ◌%◌, Some, arith}
+use Rattle.std.proofs.Common.{ap, ◌∙◌, sym, length, slice_get, Bool, ◌==◌, ◌/◌, ◌%◌, Some, arith}
 use Rattle.std.specs.Int.{bit_at}
 use Rattle.std.proofs.lemmas.Grind.{get_or_default_zero}
-use Rattle.quil_memory.specs.Packed.{unpacked}
 use Rattle.quil_memory.proofs.Packing.{length-unpacked, unpacked_at}
 use Rattle.quil_memory.proofs.memory.Memory.bit.Goals as goal
 

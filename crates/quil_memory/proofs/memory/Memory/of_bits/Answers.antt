@@ -1,4 +1,4 @@
-use Rattle.std.proofs.Common.{◌≡◌, ap, ◌∙◌}
+use Rattle.std.proofs.Common.{ap, ◌∙◌}
 use Rattle.quil_memory.specs.Packed.{unpacked}
 use Rattle.quil_memory.proofs.Packing.{unpacked_zeros}
 use Rattle.quil_memory.proofs.memory.Memory.of_bits.Goals as goal

@@ -1,7 +1,6 @@
 use Rattle.std.proofs.Common.{◌≡◌, ◌≢◌, ap, ◌∙◌, ℕ, ◌+◌, ◌<◌, ◌/◌, ◌%◌, ◌++◌, ◌∷◌, length, take, drop, get_or, List, Bool, arith}
 use Rattle.std.specs.Int.{bit_at}
 use Rattle.std.proofs.lemmas.Grind.{get_or_default_zero}
-use Rattle.quil_memory.specs.Packed.{unpacked}
 use Rattle.quil_memory.proofs.Packing.{length-unpacked, unpacked_with}
 use Rattle.quil_memory.proofs.memory.Memory.set_bit.Goals as goal
 

@@ -1,4 +1,4 @@
-use Rattle.std.proofs.Common.{◌≡◌, ap, ◌∙◌}
+use Rattle.std.proofs.Common.{ap, ◌∙◌}
 use Rattle.quil_memory.specs.Cells.{with_word}
 use Rattle.quil_memory.proofs.Written.{word_is}
 use Rattle.quil_memory.proofs.memory.Memory.set_value.Goals as goal

@@ -1,4 +1,4 @@
-use Rattle.std.proofs.Common.{◌≡◌, ap, ◌∙◌, ◌+◌, ◌%◌, ◌==◌, arith}
+use Rattle.std.proofs.Common.{◌∙◌, ◌+◌, ◌%◌, ◌==◌, arith}
 use Rattle.quil_memory.proofs.Runs.{length_written, with_bits_next}
 use Rattle.quil_memory.proofs.memory.Memory.set_word.Goals as goal
 

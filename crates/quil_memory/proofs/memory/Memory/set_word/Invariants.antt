@@ -1,4 +1,4 @@
-use Rattle.std.proofs.Common.{◌≡◌, ◌+◌, ◌-◌, ◌≤◌, length}
+use Rattle.std.proofs.Common.{◌≡◌, ◌-◌, ◌≤◌, length}
 use Rattle.quil_memory.specs.CellTypes.{size}
 use Rattle.quil_memory.proofs.Runs.{with_bits}
 use Rattle.quil_memory.proofs.memory.Memory.set_word.Given as goal

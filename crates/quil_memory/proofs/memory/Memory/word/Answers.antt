@@ -1,4 +1,4 @@
-use Rattle.std.proofs.Common.{◌≡◌, ap, ◌∙◌, drop, ◌+◌, ◌*◌, arith}
+use Rattle.std.proofs.Common.{ap, ◌∙◌, drop, ◌+◌, ◌*◌, arith}
 use Rattle.quil_memory.proofs.Runs.{number_before, word_small, bit_number, bit_small}
 use Rattle.quil_memory.proofs.Written.{size_le}
 use Rattle.quil_memory.proofs.memory.Memory.word.Goals as goal

@@ -1,4 +1,4 @@
-use Rattle.std.proofs.Common.{◌≡◌, ap, ◌∙◌, position}
+use Rattle.std.proofs.Common.{ap, ◌∙◌, position}
 use Rattle.std.specs.Str.{bytes_eq}
 use Rattle.quil_memory.specs.declared.region.Region.{Region}
 use Rattle.quil_memory.proofs.Names.{known_same, region_is, none_is}

@@ -1,6 +1,6 @@
-use Rattle.std.proofs.Common.{◌≡◌, ap, ◌∙◌, sym, subst, None, Some, Err, Ok, inl, inr, slice_get, List, ◌+◌, ◌%◌, ◌==◌}
+use Rattle.std.proofs.Common.{◌≡◌, ap, ◌∙◌, sym, subst, Some, Err, Ok, inl, ◌+◌, ◌%◌, ◌==◌}
 use Rattle.std.proofs.lemmas.Bool.{eq-eqb, ne_eqb}
-use Rattle.quil_memory.specs.Layout.{Regions, Gives, region_named, with_base, with_region}
+use Rattle.quil_memory.specs.Layout.{Gives, region_named, with_region}
 use Rattle.quil_memory.specs.declared.fault.LayoutFault.TheVariants as fault
 use Rattle.quil_memory.proofs.Layouts.{no_base, begins_outside, ends_outside, misaligned, placed}
 use Rattle.quil_memory.proofs.regions.Layout.with_base.Goals as goal
