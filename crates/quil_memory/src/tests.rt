@@ -199,7 +199,14 @@ fn put(memory: &mut Memory, kind: CellType, first: u32, value: i64)
 #[test]
 fn cells_at_both_ends(rt: HostRuntime) -> Result<(), Fail> {
     let alloc = rt.alloc();
-    let mut memory = Memory::zeros(alloc, 65_536)?;
+    let claims = claims(alloc, "x BIT 65536")?;
+    let layout = layout(alloc, &claims)
+        .ok()
+        .ok_or("65,536 bits are few enough")?;
+    let mut memory = Memory::zeros(alloc, &layout)?;
+    if layout.bits() != 65_536 {
+        return Err(Fail::from("there are 65,536 bits"));
+    }
     put(&mut memory, CellType::Integer, 0, -2);
     put(&mut memory, CellType::Real, 65_472, i64::MIN);
     put(&mut memory, CellType::Octet, 64, 129);
