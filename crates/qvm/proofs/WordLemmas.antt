@@ -1,10 +1,6 @@
 -- A list of one word.
-use Rattle.std.proofs.Common.{◌≡◌, refl, sym, ◌∙◌, ap, ℕ, ◌<◌, ◌≤◌, Bool, List, [], ◌∷◌, ◌++◌, length, get_or, map, append_assoc, arith}
-use Rattle.std.specs.Prelude.{String, string_bytes, IsTrue, ◌↔◌, codes, decimal}
-use Rattle.qvm.specs.declared.run.End.{End}
-use Rattle.qvm.specs.declared.run.End.TheVariants.{AmplitudeLimit}
-use Rattle.qvm.specs.RunText.{end_text}
-use Rattle.qvm.specs.Ends.{end_seen}
+use Rattle.std.proofs.Common.{◌≡◌, refl, sym, ◌∙◌, ap, ℕ, ◌<◌, ◌≤◌, Bool, List, [], ◌∷◌, length, get_or, map, arith}
+use Rattle.std.specs.Prelude.{String, string_bytes, IsTrue, ◌↔◌}
 use Rattle.std.specs.declared.alloc.Global.{Global}
 use Rattle.std.specs.Str.{bytes_eq}
 use Rattle.std.proofs.lemmas.Slice.Eq.{bytes_eq-Decides}
@@ -24,12 +20,3 @@ is_one_word words w text word b h k e f g =
     let all : map string_bytes words ≡ word ∷ [] = one_word words w h k ∙ ap (λ (v : String Global). string_bytes v ∷ []) (sym e) ∙ ap (λ (v : List ℕ). v ∷ []) (sym f) in
     let d = bytes_eq-Decides word text in
     ((λ t. all ∙ ap (λ (v : List ℕ). v ∷ []) (d.0 (sym g ∙ t))), (λ p. g ∙ d.1 (ap (first_or []) (sym all ∙ p))))
-
--- the line of an AmplitudeLimit behind a text
-pub limit_line : (old items : List ℕ) (end : End) (line number : ℕ) → end ≡ AmplitudeLimit line → number ≡ line →
-    items ≡ old ++ codes "fault: 28 AmplitudeLimit line=" ++ decimal number ++ codes "\n" → items ≡ old ++ end_text (end_seen end)
-limit_line old items end line number e n p =
-    p ∙ ap (λ (k : ℕ). old ++ codes "fault: 28 AmplitudeLimit line=" ++ decimal k ++ codes "\n") n
-    ∙ ap (λ (t : List ℕ). t ++ codes "\n") (append_assoc old (codes "fault: 28 AmplitudeLimit line=") (decimal line))
-    ∙ append_assoc old (codes "fault: 28 AmplitudeLimit line=" ++ decimal line) (codes "\n")
-    ∙ ap (λ (x : End). old ++ end_text (end_seen x)) (sym e)

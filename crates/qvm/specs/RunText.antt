@@ -1,6 +1,7 @@
 -- What `qvm run` writes and the status that it ends with, for each text.
-use Rattle.std.specs.Prelude.{◌≡◌, ◌≢◌, ℕ, ◌⊎◌, Bool, true, false, List, [], ◌++◌, take, drop, codes, decimal}
+use Rattle.std.specs.Prelude.{◌≡◌, ◌≢◌, ℕ, pos, ◌⊎◌, Bool, true, false, List, [], ◌∷◌, ◌++◌, take, drop, codes}
 use Rattle.std.specs.List.{flat_map}
+use Rattle.qvm_diagnostic.specs.Report.{Number, Word, Report, text_of}
 use Rattle.qvm_step.specs.declared.plan.Region.{Region}
 use Rattle.qvm_step.specs.Program.{Program}
 use Rattle.qvm_step.specs.Words.{zero_seed}
@@ -35,13 +36,46 @@ region_text bits r = r.name ++ codes ":" ++ cells_text (take r.length (drop r.fi
 abbrev pub memory_text : List Bool → List Region → List ℕ
 memory_text bits regions = flat_map (region_text bits) regions
 
+-- ---- what faults and refusals say
+
+abbrev pub line_report : ℕ → List ℕ → ℕ → Report
+line_report code name line = record { code = code; name = name; details = (codes "line", Number (pos line)) ∷ [] }
+
+abbrev pub place_report : ℕ → List ℕ → ℕ → ℕ → Report
+place_report code name line column =
+    record { code = code; name = name; details = (codes "column", Number (pos column)) ∷ (codes "line", Number (pos line)) ∷ [] }
+
+abbrev pub length_report : ℕ → List ℕ → ℕ → Report
+length_report code name size = record { code = code; name = name; details = (codes "length", Number (pos size)) ∷ [] }
+
+abbrev pub line_word_report : ℕ → List ℕ → ℕ → List ℕ → Report
+line_word_report code name line word =
+    record { code = code; name = name; details = (codes "line", Number (pos line)) ∷ (codes "word", Word word) ∷ [] }
+
+-- a row for each fault of reading
+abbrev pub fault_report : ReadFault → Report
+fault_report (fault.NumberTooWide line column) = place_report 4 (codes "NumberTooWide") line column
+fault_report (fault.BadToken line column) = place_report 5 (codes "BadToken") line column
+fault_report (fault.Unexpected line column) = place_report 6 (codes "Unexpected") line column
+fault_report (fault.TextTooLong size) = length_report 7 (codes "TextTooLong") size
+fault_report (fault.LeftOut line word) = line_word_report 8 (codes "LeftOut") line word
+fault_report fault.OutOfMemory = record { code = 37; name = codes "OutOfMemory"; details = [] }
+
+-- the tree leaves the cut at a line
+abbrev pub not_built_report : ℕ → Report
+not_built_report line = line_report 57 (codes "NotBuilt") line
+
+-- the gate at a line exceeds the limit of amplitudes
+abbrev pub limit_report : ℕ → Report
+limit_report line = line_report 28 (codes "AmplitudeLimit") line
+
 -- ---- a run
 
 -- the further line of a run that didn't halt
 abbrev pub end_text : End → List ℕ
 end_text Halted = []
 end_text StepLimit = codes "step limit\n"
-end_text (AmplitudeLimit line) = codes "fault: 28 AmplitudeLimit line=" ++ decimal line ++ codes "\n"
+end_text (AmplitudeLimit line) = codes "fault: " ++ text_of (limit_report line) ++ codes "\n"
 
 abbrev pub end_status : End → ℕ
 end_status Halted = 0
@@ -57,20 +91,12 @@ run_reply limit program = finished_reply program.regions (finished limit program
 
 -- ---- refusals
 
--- the line of a fault of reading; want of memory has none
-abbrev pub fault_text : ReadFault → List ℕ
-fault_text (fault.NumberTooWide line column) = codes "error: 4 NumberTooWide column=" ++ decimal column ++ codes " line=" ++ decimal line ++ codes "\n"
-fault_text (fault.BadToken line column) = codes "error: 5 BadToken column=" ++ decimal column ++ codes " line=" ++ decimal line ++ codes "\n"
-fault_text (fault.Unexpected line column) = codes "error: 6 Unexpected column=" ++ decimal column ++ codes " line=" ++ decimal line ++ codes "\n"
-fault_text (fault.TextTooLong size) = codes "error: 7 TextTooLong length=" ++ decimal size ++ codes "\n"
-fault_text (fault.LeftOut line word) = codes "error: 8 LeftOut line=" ++ decimal line ++ codes " word=" ++ word ++ codes "\n"
-fault_text fault.OutOfMemory = []
+-- the line of a refusal
+abbrev pub refusal_text : Report → List ℕ
+refusal_text r = codes "error: " ++ text_of r ++ codes "\n"
 
-abbrev pub refused_reply : ReadFault → Reply
-refused_reply f = record { output = fault_text f; status = 1 }
-
-abbrev pub not_built_reply : ℕ → Reply
-not_built_reply line = record { output = codes "error: 57 NotBuilt line=" ++ decimal line ++ codes "\n"; status = 1 }
+abbrev pub refusal_reply : Report → Reply
+refusal_reply r = record { output = refusal_text r; status = 1 }
 
 -- ---- every text has one reply
 
@@ -79,13 +105,13 @@ pub record IsRefusal (text : List ℕ) (reply : Reply) : Type 0 where
   pub fault : ReadFault
   pub known : fault ≢ OutOfMemory
   pub is_fault : IsFaultOf text fault
-  pub is : reply ≡ refused_reply fault
+  pub is : reply ≡ refusal_reply (fault_report fault)
 
 -- the tree breaks the cut at a line
 pub record IsNotBuilt (tree : List Item) (reply : Reply) : Type 0 where
   pub line : ℕ
   pub breaks : BreaksAt tree line
-  pub is : reply ≡ not_built_reply line
+  pub is : reply ≡ refusal_reply (not_built_report line)
 
 -- the tree is in the cut, and its plan is run
 pub record IsRun (limit : ℕ) (tree : List Item) (reply : Reply) : Type 0 where

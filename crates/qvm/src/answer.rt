@@ -5,14 +5,15 @@ ghost use Rattle.quil_grammar.specs.declared.fault.ReadFault.TheVariants.{OutOfM
 ghost use Rattle.qvm_step.specs.Program.{bits_of};
 ghost use Rattle.qvm.specs.Ends.{end_seen, reply_seen};
 ghost use Rattle.qvm.specs.Calls.{step_limit};
-ghost use Rattle.qvm.specs.RunText.{IsReplyTo, IsReplyToTree, end_text, end_status, run_reply, not_built_reply, refused_reply};
+ghost use Rattle.qvm.specs.RunText.{IsReplyTo, IsReplyToTree, end_text, end_status, run_reply, fault_report, not_built_report, refusal_reply};
 
 use crate::plan::{FirstFault, plan_of};
-use crate::refusal::fault_text;
+use crate::refusal::{diagnostic_of, of_line, push_line};
 use crate::run::{End, run};
-use crate::text::{memory_text, numbered_line, push_numbered};
+use crate::text::memory_text;
 use quil_parse::{ReadFault, parse};
 use quil_tree::Tree;
+use qvm_diagnostic::Diagnostic;
 use qvm_step::Plan;
 use std::alloc::{AllocError, Global};
 
@@ -46,13 +47,8 @@ fn push_end(alloc: Global, output: &mut Vec<u8>, end: End) -> Result<(), AllocEr
     match end {
         End::Halted => Ok(()),
         End::AmplitudeLimit(line) => {
-            push_numbered(
-                alloc,
-                output,
-                "fault: 28 AmplitudeLimit line=",
-                u64::from(line),
-            )?;
-            Ok(())
+            let fault = of_line(28, "AmplitudeLimit", line);
+            push_line(alloc, output, "fault: ", &fault)
         }
         End::StepLimit => {
             output.extend_from_slice(b"step limit\n")?;
@@ -74,27 +70,35 @@ fn run_reply(alloc: Global, plan: &Plan) -> Result<Reply, AllocError>
     })
 }
 
-fn not_built(alloc: Global, line: u32) -> Result<Reply, AllocError>
-    ensures reply { IfOk result (λ reply. reply_seen reply ≡ not_built_reply line) }
+// The reply to a text that is refused.
+fn refusal(alloc: Global, diagnostic: &Diagnostic<'_>) -> Result<Reply, AllocError>
+    ensures reply { IfOk result (λ reply. reply_seen reply ≡ refusal_reply diagnostic.now) }
     ensures status { IfOk result (λ reply. reply.status < 6) }
 {
-    let output = numbered_line(alloc, "error: 57 NotBuilt line=", u64::from(line))?;
+    let mut output = Vec::new(alloc);
+    push_line(alloc, &mut output, "error: ", diagnostic)?;
     Ok(Reply {
         output,
         status: REFUSED,
     })
 }
 
-fn refused(alloc: Global, fault: &ReadFault) -> Result<Reply, AllocError>
-    ensures known { IfOk result (λ reply. fault.now ≢ OutOfMemory) }
-    ensures reply { IfOk result (λ reply. reply_seen reply ≡ refused_reply fault.now) }
+fn not_built(alloc: Global, line: u32) -> Result<Reply, AllocError>
+    ensures reply { IfOk result (λ reply. reply_seen reply ≡ refusal_reply (not_built_report line)) }
     ensures status { IfOk result (λ reply. reply.status < 6) }
 {
-    let output = fault_text(alloc, fault)?;
-    Ok(Reply {
-        output,
-        status: REFUSED,
-    })
+    refusal(alloc, &of_line(57, "NotBuilt", line))
+}
+
+fn refused(alloc: Global, fault: &ReadFault) -> Result<Reply, AllocError>
+    ensures known { IfOk result (λ reply. fault.now ≢ OutOfMemory) }
+    ensures reply { IfOk result (λ reply. reply_seen reply ≡ refusal_reply (fault_report fault.now)) }
+    ensures status { IfOk result (λ reply. reply.status < 6) }
+{
+    if matches!(fault, ReadFault::OutOfMemory) {
+        return Err(AllocError);
+    }
+    refusal(alloc, &diagnostic_of(fault))
 }
 
 // The reply to a text that was read.

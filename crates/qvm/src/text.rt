@@ -1,6 +1,6 @@
 //! The texts that the program prints.
 
-ghost use Rattle.std.specs.Prelude.{◌≡◌, ◌+◌, ◌≤◌, ◌++◌, [], ◌∷◌, take, drop, length, All, IfOk, OnOk, codes, decimal};
+ghost use Rattle.std.specs.Prelude.{◌≡◌, ◌+◌, ◌≤◌, ◌++◌, [], ◌∷◌, take, drop, length, All, IfOk, OnOk, codes};
 ghost use Rattle.std.specs.List.{flat_map};
 ghost use Rattle.qvm.specs.RunText.{digit_of, cells_text, region_text, memory_text};
 
@@ -43,38 +43,5 @@ pub(crate) fn memory_text(
     for region in regions {
         push_region(&mut text, region, bits)?;
     }
-    Ok(text)
-}
-
-/// Adds the decimal digits of a number.
-pub(crate) fn push_decimal(alloc: Global, text: &mut Vec<u8>, number: u64) -> Result<(), AllocError>
-    ensures { OnOk result (text.new.items ≡ text.old.items ++ decimal number) }
-{
-    let digits = format!(in alloc; "{number}")?;
-    text.extend_from_slice(digits.as_bytes())?;
-    Ok(())
-}
-
-/// Adds a line: some words, and the decimal digits of a number.
-pub(crate) fn push_numbered(
-    alloc: Global,
-    text: &mut Vec<u8>,
-    front: &str,
-    number: u64,
-) -> Result<(), AllocError>
-    ensures { OnOk result (text.new.items ≡ text.old.items ++ front.now ++ decimal number ++ codes "\n") }
-{
-    text.extend_from_slice(front.as_bytes())?;
-    push_decimal(alloc, text, number)?;
-    text.push(b'\n')?;
-    Ok(())
-}
-
-/// The text of a number behind some words, as a line of its own.
-pub(crate) fn numbered_line(alloc: Global, front: &str, number: u64) -> Result<Vec<u8>, AllocError>
-    ensures { IfOk result (λ text. text.items ≡ front.now ++ decimal number ++ codes "\n") }
-{
-    let mut text = Vec::new(alloc);
-    push_numbered(alloc, &mut text, front, number)?;
     Ok(text)
 }
