@@ -53,7 +53,13 @@ fn put_sum(
     requires { CellFits (arithmetic_type kind) target (length memory.old) }
     ensures { Does result (with_result line (arithmetic_type kind) target (sum_of operation x y) memory.old) memory.old memory.new }
 {
-    put(memory, line, kind.cell_type(), target, sum_of(operation, x, y))
+    put(
+        memory,
+        line,
+        kind.cell_type(),
+        target,
+        sum_of(operation, x, y),
+    )
 }
 
 fn sum(
@@ -189,7 +195,13 @@ fn convert(
     ensures { Does result (effect line (classic.Convert kind target from source) memory.old) memory.old memory.new }
 {
     let value = memory.value(from.cell_type(), source.first);
-    put(memory, line, kind.cell_type(), target, if_in_type(kind, value))
+    put(
+        memory,
+        line,
+        kind.cell_type(),
+        target,
+        if_in_type(kind, value),
+    )
 }
 
 fn load(

@@ -3,7 +3,6 @@
 
 mod apply;
 mod arithmetic;
-
 mod operands;
 mod place;
 #[cfg(test)]

@@ -287,7 +287,9 @@ fn memory_of(alloc: Global, text: &str) -> Result<Memory, Fail>
     let first = words.next().unwrap_or("").parse().unwrap_or(0);
     let second = words.next().unwrap_or("").parse().unwrap_or(0);
     let third = words.next().unwrap_or("").parse().unwrap_or(0);
-    let layout = three_integers(alloc).ok().ok_or("three INTEGERs have a layout")?;
+    let layout = three_integers(alloc)
+        .ok()
+        .ok_or("three INTEGERs have a layout")?;
     let mut memory = Memory::zeros(alloc, &layout)?;
     if layout.bits() != 192 {
         return Err(Fail::from("three INTEGERs have 192 bits"));
@@ -316,9 +318,7 @@ fn told(alloc: Global, row: &str) -> Result<String, Fail> {
         return Ok(memory_text(alloc, &memory)?);
     };
     let mut text = Vec::new(alloc);
-    Fault::from(fault)
-        .diagnostic()
-        .push_text(alloc, &mut text)?;
+    Fault::from(fault).diagnostic().push_text(alloc, &mut text)?;
     Ok(String::from_utf8_lossy(alloc, &text)?)
 }
 
