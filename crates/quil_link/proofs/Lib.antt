@@ -1,0 +1,4 @@
+pub mod Layouts
+pub mod Marks
+pub mod Qubits
+pub mod Loads

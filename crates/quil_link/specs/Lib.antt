@@ -1,0 +1,10 @@
+pub mod Passes
+pub mod Built
+pub mod Layout
+pub mod Counted
+pub mod Cells
+pub mod Types
+pub mod Linked
+pub mod Numbered
+pub mod Load
+pub mod Steps
