@@ -1,5 +1,4 @@
 use crate::*;
-use std::alloc::{AllocError, Global};
 use std::test::Fail;
 
 // A number alone.
@@ -25,31 +24,7 @@ fn keeps_steps(rt: HostRuntime) -> Result<(), Fail> {
     Ok(())
 }
 
-fn halt() -> Item {
-    Item::Plain(Line {
-        place: Place { line: 1, column: 1 },
-        statement: Statement::Halt,
-    })
-}
-
-fn item_text(alloc: Global) -> Result<Text, AllocError> {
-    print_item(alloc, &halt())
-}
-
-fn tree_text(alloc: Global) -> Result<Text, AllocError> {
-    let mut tree: Tree = List::new(alloc);
-    tree.push(halt())?;
-    print(alloc, &tree)
-}
-
-// One item, alone and in a tree. The tables of printed texts stand in `quil_parse`, where trees are read from texts.
-#[test]
-fn prints_an_item(rt: HostRuntime) -> Result<(), Fail> {
-    let alloc = rt.alloc();
-    assert!(rt; item_text(alloc)?.as_bytes() == b"HALT\n".as_slice());
-    assert!(rt; tree_text(alloc)?.as_bytes() == b"HALT\n".as_slice());
-    Ok(())
-}
+// Tables of printed texts stand in `quil_parse`, where trees are read from texts.
 
 // A name that stands twice counts once.
 #[test]
