@@ -7,8 +7,8 @@ ghost use Rattle.quil_code.specs.Program.{CellFits, SourceFits, SpanFits, Classi
 
 use crate::apply::apply;
 use quil_code::{
-    Arithmetic, BitOperation, Bitwise, Cell, Classic, Comparison, Fault, ProductOperation, Source,
-    Span, SumOperation,
+    Arithmetic, BitOperation, Bitwise, Cell, Classic, ClassicFault, Comparison, Fault,
+    ProductOperation, Source, Span, SumOperation,
 };
 use quil_memory::{CellType, Claim, Layout, LayoutFault, Memory, Name, layout};
 use std::alloc::{AllocError, Global};
@@ -309,12 +309,21 @@ fn memory_text(alloc: Global, memory: &Memory) -> Result<String, AllocError>
     format!(in alloc; "{first} {second} {third}")
 }
 
+// Does the instruction, at line 5.
+#[tactic(auto, using(crate::proofs::Lengths::kept))]
+fn done(instruction: Classic, memory: &mut Memory) -> Result<(), ClassicFault>
+    requires bits { length memory.old ≡ 192 }
+    requires fits { ClassicFits instruction 192 }
+    ensures { length memory.new ≡ 192 }
+{
+    apply(5, instruction, memory)
+}
+
 fn told(alloc: Global, row: &str) -> Result<String, Fail> {
     let (words, before) = row.split_once(" : ").ok_or("the row has a memory")?;
     let instruction = instruction(words).ok_or("the row has an instruction")?;
     let mut memory = memory_of(alloc, before)?;
-    let done = apply(5, instruction, &mut memory);
-    let Err(fault) = done else {
+    let Err(fault) = done(instruction, &mut memory) else {
         return Ok(memory_text(alloc, &memory)?);
     };
     let mut text = Vec::new(alloc);
