@@ -12,8 +12,8 @@ ghost use Rattle.quil_link.specs.Steps.{IsLinked, AreLinked, OrWantsMemory};
 use crate::gate::{Standard, qubit_number, standard_gate};
 use crate::term::{cell_at, span_named, term_at};
 use crate::types::{
-    cell_as, typed_bits, typed_comparison, typed_convert, typed_exchange, typed_not, typed_load, typed_move, typed_product,
-    typed_neg, typed_store, typed_sum,
+    cell_as, typed_bits, typed_comparison, typed_convert, typed_exchange, typed_load, typed_move,
+    typed_neg, typed_not, typed_product, typed_store, typed_sum,
 };
 use quil_code::{
     BitOperation, Cell, Classic, Comparison, Instruction, Line, LoadFault, ProductOperation,

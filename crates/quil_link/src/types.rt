@@ -159,7 +159,11 @@ pub(crate) fn typed_not(target: TypedCell) -> Option<Classic>
     })
 }
 
-pub(crate) fn typed_bits(operation: BitOperation, target: TypedCell, source: Term) -> Option<Classic>
+pub(crate) fn typed_bits(
+    operation: BitOperation,
+    target: TypedCell,
+    source: Term,
+) -> Option<Classic>
     ensures value { result ≡ types.typed_bits operation target source }
     ensures fits { (bits : ℕ) → CellWithin target bits → TermWithin source bits → IfSome result (λ c. ClassicFits c bits) }
 {
