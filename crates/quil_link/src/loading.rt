@@ -1,7 +1,7 @@
 //! The program of a text.
 
 ghost use Rattle.std.specs.Prelude.{◌≡◌, ◌≢◌, ◌⊎◌, ◌<◌, length, List, ℕ, Result, Ok, Err, IfOk, IfErr};
-ghost use Rattle.quil_grammar.specs.Answer.{most_bytes};
+ghost use Rattle.quil_grammar.specs.declared.parse.TheConstants.{MOST_BYTES};
 ghost use Rattle.quil_code.specs.Program.{Program};
 ghost use Rattle.quil_code.specs.declared.load_fault.LoadFault as fault;
 ghost use Rattle.quil_code.specs.declared.load_fault.LoadFault.TheVariants.{OutOfMemory, TextTooLong};
@@ -68,7 +68,7 @@ pub fn load(alloc: Global, text: &[u8]) -> Result<Code, LoadFault>
     ensures only { (r : Result Program fault.LoadFault) → IsLoaded text.now r → Loads result r }
 
     // A text that is too long takes no memory.
-    ensures too_long { most_bytes < length text.now → result ≡ Err (TextTooLong (length text.now)) }
+    ensures too_long { MOST_BYTES < length text.now → result ≡ Err (TextTooLong (length text.now)) }
 {
     match parse(alloc, text) {
         Ok(tree) => load_tree(alloc, tree.as_slice()),
