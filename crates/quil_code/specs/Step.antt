@@ -1,6 +1,6 @@
 -- One step of the abstract machine (arXiv 1608.03355, with MEASURE, WAIT, NOP, HALT and the classical instructions of the Quil
 -- specification).
-use Rattle.std.specs.Prelude.{◌≡◌, ◌≢◌, ℕ, ◌+◌, ◌≤◌, nat_le, Bool, true, false, if◌then◌else◌, List, [], ◌∷◌, length, drop, Option, Some, None, Result, Ok, Err, slice_get}
+use Rattle.std.specs.Prelude.{◌≡◌, ℕ, ◌+◌, ◌≤◌, nat_le, Bool, true, false, if◌then◌else◌, List, [], ◌∷◌, length, drop, Option, Some, None, Result, Ok, Err, slice_get}
 use Rattle.std.specs.List.{prefix_len}
 use Rattle.qvm_ring.specs.Ray.{Ray, weight, weight_limit}
 use Rattle.qvm_ring.specs.Gate.{Gate, x_gate, h_gate, cnot_gate, applied}
@@ -120,6 +120,28 @@ line_needs_word (Some l) = is_measurement l.instruction
 unfoldable pub needs_word : Program → Quantum → Bool
 needs_word program m = line_needs_word (slice_get program.lines (here program.lines m.at))
 
+-- ---- want of memory
+
+-- gates and measurements make a new ray
+abbrev pub makes_ray : Instruction → Bool
+makes_ray instruction.Passive = false
+makes_ray instruction.Nop = false
+makes_ray instruction.Wait = false
+makes_ray instruction.Halt = false
+makes_ray (instruction.X q) = true
+makes_ray (instruction.H q) = true
+makes_ray (instruction.Cnot control target) = true
+makes_ray (instruction.Measure q cell) = true
+makes_ray (instruction.Classic c) = false
+
+abbrev pub line_may_want_memory : Option Line → Bool
+line_may_want_memory None = false
+line_may_want_memory (Some l) = makes_ray l.instruction
+
+-- whether memory may run out in the step: at a gate or a measurement alone
+unfoldable pub may_want_memory : Program → Quantum → Bool
+may_want_memory program m = line_may_want_memory (slice_get program.lines (here program.lines m.at))
+
 -- ---- machines and answers
 
 -- a machine that a program can run on: its qubits, the bits of its layout, and a place in it or at its end
@@ -128,15 +150,11 @@ pub record FitsProgram (program : Program) (m : Quantum) : Type 0 where
   pub memory : length m.memory ≡ program.layout.bits
   pub place : m.at ≤ length program.lines
 
--- the machine goes on, or meets a fault
-abbrev pub NeitherHaltsNorWaits : Next → Type 0
-NeitherHaltsNorWaits next = (next ≢ Halts) × ((m : Quantum) → next ≢ Waits m)
-
 -- What an answer of the code says of a step: it went on, or on to wait, where the definition goes; or nothing changed, and it
--- halted, met that fault, or there was no memory for a step that neither halts nor waits.
+-- halted, met that fault, or memory ran out.
 abbrev pub Answers : Stepped → Next → Quantum → Quantum → Type 0
 Answers stepped.Went next old new = next ≡ Goes new
 Answers stepped.AtWait next old new = next ≡ Waits new
 Answers stepped.Halted next old new = (next ≡ Halts) × (new ≡ old)
 Answers (stepped.Fault f) next old new = (next ≡ Faults f) × (new ≡ old)
-Answers stepped.OutOfMemory next old new = NeitherHaltsNorWaits next × (new ≡ old)
+Answers stepped.OutOfMemory next old new = new ≡ old

@@ -117,7 +117,8 @@ fn of_word<'a>(code: u16, name: &'static str, word: &'a Name) -> Diagnostic<'a>
     Diagnostic::new(code, name, &[("word", Detail::Word(word.as_bytes()))])
 }
 
-fn of_line_and_word<'a>(code: u16, name: &'static str, line: u32, word: &'a Name) -> Diagnostic<'a>
+// A refusal of a word that stands at a line.
+fn of_use<'a>(code: u16, name: &'static str, line: u32, word: &'a Name) -> Diagnostic<'a>
     ensures { result ≡ line_word_report code name.now line word.now }
 {
     Diagnostic::new(
@@ -159,56 +160,42 @@ impl LoadFault {
     {
         // An arm that lends a word returns at once, since the others lend nothing and the borrows could not join.
         match self {
-            LoadFault::NotExact { line, column } => of_place(2, "NotExact", *line, *column),
-            LoadFault::ZeroDivisor { line, column } => of_place(3, "ZeroDivisor", *line, *column),
-            LoadFault::NumberTooWide { line, column } => {
-                of_place(4, "NumberTooWide", *line, *column)
-            }
-            LoadFault::BadToken { line, column } => of_place(5, "BadToken", *line, *column),
-            LoadFault::Unexpected { line, column } => of_place(6, "Unexpected", *line, *column),
-            LoadFault::TextTooLong { length } => of_number(7, "TextTooLong", "length", *length),
-            LoadFault::LeftOut { line, word } => return of_line_and_word(8, "LeftOut", *line, word),
-            LoadFault::Redeclared { word } => return of_word(9, "Redeclared", word),
-            LoadFault::UnknownRegion { word } => return of_word(10, "UnknownRegion", word),
-            LoadFault::ShareOutside { word } => return of_word(11, "ShareOutside", word),
-            LoadFault::Misaligned { word } => return of_word(12, "Misaligned", word),
-            LoadFault::MemoryTooLarge { bits } => of_number(13, "MemoryTooLarge", "bits", *bits),
-            LoadFault::OutOfRange {
+            Self::NotExact { line, column } => of_place(2, "NotExact", *line, *column),
+            Self::ZeroDivisor { line, column } => of_place(3, "ZeroDivisor", *line, *column),
+            Self::NumberTooWide { line, column } => of_place(4, "NumberTooWide", *line, *column),
+            Self::BadToken { line, column } => of_place(5, "BadToken", *line, *column),
+            Self::Unexpected { line, column } => of_place(6, "Unexpected", *line, *column),
+            Self::TextTooLong { length } => of_number(7, "TextTooLong", "length", *length),
+            Self::LeftOut { line, word } => return of_use(8, "LeftOut", *line, word),
+            Self::Redeclared { word } => return of_word(9, "Redeclared", word),
+            Self::UnknownRegion { word } => return of_word(10, "UnknownRegion", word),
+            Self::ShareOutside { word } => return of_word(11, "ShareOutside", word),
+            Self::Misaligned { word } => return of_word(12, "Misaligned", word),
+            Self::MemoryTooLarge { bits } => of_number(13, "MemoryTooLarge", "bits", *bits),
+            Self::OutOfRange {
                 index,
                 length,
                 word,
             } => return of_cell(*index, *length, word),
-            LoadFault::NotUnitary { word } => return of_word(16, "NotUnitary", word),
-            LoadFault::AngleInexact { line, eighths } => angle_inexact(*line, *eighths),
-            LoadFault::Arity { line } => of_line(18, "Arity", *line),
-            LoadFault::RepeatedQubit { line } => of_line(19, "RepeatedQubit", *line),
-            LoadFault::UnknownGate { line, word } => return of_line_and_word(
-                20,
-                "UnknownGate",
-                *line,
-                word,
+            Self::NotUnitary { word } => return of_word(16, "NotUnitary", word),
+            Self::AngleInexact { line, eighths } => angle_inexact(*line, *eighths),
+            Self::Arity { line } => of_line(18, "Arity", *line),
+            Self::RepeatedQubit { line } => of_line(19, "RepeatedQubit", *line),
+            Self::UnknownGate { line, word } => return of_use(20, "UnknownGate", *line, word),
+            Self::EntryTooLarge { word } => return of_word(21, "EntryTooLarge", word),
+            Self::CircuitDepth { line } => of_line(22, "CircuitDepth", *line),
+            Self::TooManyInstructions { count } => of_number(
+                23,
+                "TooManyInstructions",
+                "count",
+                *count,
             ),
-            LoadFault::EntryTooLarge { word } => return of_word(21, "EntryTooLarge", word),
-            LoadFault::CircuitDepth { line } => of_line(22, "CircuitDepth", *line),
-            LoadFault::TooManyInstructions { count } => {
-                of_number(23, "TooManyInstructions", "count", *count)
-            }
-            LoadFault::UnknownLabel { line, word } => return of_line_and_word(
-                24,
-                "UnknownLabel",
-                *line,
-                word,
-            ),
-            LoadFault::RepeatedLabel { line, word } => return of_line_and_word(
-                25,
-                "RepeatedLabel",
-                *line,
-                word,
-            ),
-            LoadFault::TypeClash { line } => of_line(26, "TypeClash", *line),
-            LoadFault::TooManyQubits { count } => of_number(27, "TooManyQubits", "count", *count),
-            LoadFault::NotBuilt { line } => of_line(57, "NotBuilt", *line),
-            LoadFault::OutOfMemory => out_of_memory(),
+            Self::UnknownLabel { line, word } => return of_use(24, "UnknownLabel", *line, word),
+            Self::RepeatedLabel { line, word } => return of_use(25, "RepeatedLabel", *line, word),
+            Self::TypeClash { line } => of_line(26, "TypeClash", *line),
+            Self::TooManyQubits { count } => of_number(27, "TooManyQubits", "count", *count),
+            Self::NotBuilt { line } => of_line(57, "NotBuilt", *line),
+            Self::OutOfMemory => out_of_memory(),
         }
     }
 }
