@@ -202,18 +202,32 @@ fn push_bits(text: &mut String, memory: &Memory) -> Result<(), AllocError>
     Ok(())
 }
 
-fn told(alloc: Global, row: &str) -> Result<String, Fail> {
-    let (lines, commands) = row.split_once(" : ").ok_or("the row has commands")?;
-    let code = code_of(alloc, lines)?;
-    let mut quantum = first_machine(alloc, &code)?;
+// What the commands, one after another, answer.
+fn answers(
+    alloc: Global,
+    code: &Code,
+    quantum: &mut Quantum,
+    commands: &str,
+) -> Result<String, Fail>
+    requires { FitsProgram code.now quantum.old }
+    ensures { FitsProgram code.now quantum.new }
+{
     let mut text = String::new(alloc);
     for command in commands.split(' ') {
-        let answer = done(alloc, &code, &mut quantum, command)?;
+        let answer = done(alloc, code, quantum, command)?;
         if !text.is_empty() {
             text.push_str(", ")?;
         }
         text.push_str(&answer)?;
     }
+    Ok(text)
+}
+
+fn told(alloc: Global, row: &str) -> Result<String, Fail> {
+    let (lines, commands) = row.split_once(" : ").ok_or("the row has commands")?;
+    let code = code_of(alloc, lines)?;
+    let mut quantum = first_machine(alloc, &code)?;
+    let mut text = answers(alloc, &code, &mut quantum, commands)?;
     push_bits(&mut text, &quantum.memory)?;
     Ok(text)
 }
