@@ -17,6 +17,7 @@ mod types;
 
 pub use laws::one_program;
 pub use loading::load;
+pub use quil_code::LoadFault;
 
 #[cfg(test)]
 mod tests;

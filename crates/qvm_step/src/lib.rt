@@ -15,4 +15,5 @@ mod words;
 pub use laws::{places_by_hand, runs_by_hand, steps_by_hand, word_matters_at_measure_alone};
 pub use machine::{restart, step};
 pub use place::needs_word;
+pub use quil_code::{Fault, Quantum, Stepped};
 pub use words::draw;
