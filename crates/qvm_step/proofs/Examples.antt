@@ -1,9 +1,9 @@
 -- The short programs of the tests.
-use Rattle.std.proofs.Common.{◌≡◌, ℕ, ◌+◌, ◌<◌, ◌≤◌, ◌^◌, List, [], ◌∷◌, ◌++◌, length, arith}
+use Rattle.std.proofs.Common.{◌≡◌, ◌≤◌, List, [], ◌∷◌, ◌++◌, length, arith}
 use Rattle.std.specs.List.{AllByRecursion}
 use Rattle.quil_memory.specs.Layout.{Regions}
 use Rattle.quil_code.specs.declared.instruction.Line.{Line}
-use Rattle.quil_code.specs.Program.{Program, IsProgram, Fits}
+use Rattle.quil_code.specs.Program.{IsProgram, Fits}
 
 pub fit_push : (ls : List Line) (l : Line) → AllByRecursion (λ k. Fits k.instruction 2 10) ls → Fits l.instruction 2 10 → AllByRecursion (λ k. Fits k.instruction 2 10) (ls ++ l ∷ [])
 fit_push [] l h p = (p, tt)

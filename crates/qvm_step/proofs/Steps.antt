@@ -1,10 +1,9 @@
 -- Steps, words, and machines that still fit.
-use Rattle.std.proofs.Common.{◌≡◌, ◌≢◌, refl, sym, ap, subst, ℕ, zero, suc, ◌+◌, ◌^◌, ◌<◌, Bool, true, false, List, [], ◌∷◌, length, get_or, arith}
+use Rattle.std.proofs.Common.{◌≡◌, ◌≢◌, refl, sym, subst, ℕ, zero, suc, ◌+◌, ◌^◌, ◌<◌, Bool, true, false, List, [], ◌∷◌, length, get_or, arith}
 use Rattle.std.proofs.lemmas.Option.{slice_get_within, get_or_from_slice_get}
-use Rattle.std.specs.Prelude.{Option, Some, None, Ok, Err, slice_get, nat_le, if◌then◌else◌}
+use Rattle.std.specs.Prelude.{Option, Some, None, Ok, Err, slice_get, if◌then◌else◌}
 use Rattle.std.specs.List.{AllByRecursion}
-use Rattle.qvm_ring.specs.Ray.{Ray, IsFiniteMap, weight, weight_limit}
-use Rattle.qvm_ring.specs.Gate.{Gate, applied}
+use Rattle.qvm_ring.specs.Ray.{Ray, IsFiniteMap}
 use Rattle.qvm_ring.specs.Measure.{outcome, kept}
 use Rattle.qvm_ring.specs.NormViews.{bit_number}
 use Rattle.quil_memory.specs.declared.cell_type.CellType.TheVariants.{Bit}
@@ -19,8 +18,8 @@ use Rattle.quil_code.specs.declared.quantum.Stepped.TheVariants as stepped
 use Rattle.quil_code.specs.declared.fault.Fault.{Fault}
 use Rattle.quil_code.specs.Classic.{Effect, effect, one_if}
 use Rattle.quil_code.specs.Program.{Program, IsProgram, Fits, OutcomeFits, ClassicFits}
-use Rattle.quil_code.specs.Step.{Next, Goes, Waits, Halts, Faults, here, step, needs_word, after_gate, after_measurement, after_effect, after_line, after_instruction, with_outcome, is_measurement, line_needs_word, FitsProgram, Answers}
-use Rattle.qvm_classic.specs.Places.{classic_in, classic_at}
+use Rattle.quil_code.specs.Step.{Next, Goes, Waits, Halts, Faults, here, step, needs_word, after_effect, after_line, after_instruction, with_outcome, is_measurement, line_needs_word, FitsProgram, Answers}
+use Rattle.qvm_classic.specs.Places.{classic_at}
 use Rattle.qvm_classic.proofs.Lengths.{length-with_word, kept as kept_length}
 
 -- ---- words

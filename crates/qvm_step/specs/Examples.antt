@@ -1,6 +1,6 @@
 -- Programs and machines that the worked examples speak of.
 use Rattle.std.specs.Prelude.{ℕ, Bool, false, true, List, [], ◌∷◌, ◌^◌, ◌+◌}
-use Rattle.qvm_ring.specs.Ring.{unit, whole_number}
+use Rattle.qvm_ring.specs.Ring.{whole_number}
 use Rattle.qvm_ring.specs.Ray.{Ray}
 use Rattle.quil_memory.specs.Layout.{no_regions}
 use Rattle.quil_code.specs.declared.classic.Cell.{Cell}
@@ -24,10 +24,6 @@ no_bits = false ∷ false ∷ []
 -- a BIT of 0, and an OCTET of 2 behind it
 abbrev pub two_as_octet : List Bool
 two_as_octet = false ∷ false ∷ true ∷ false ∷ false ∷ false ∷ false ∷ false ∷ false ∷ []
-
--- |00> + |11>
-abbrev pub bell_pair : Ray
-bell_pair = (0, unit) ∷ (3, unit) ∷ []
 
 -- 2^46 + 1 and 2^46, from which H makes 2^47 + 1 and 1
 abbrev pub heavy_ray : Ray

@@ -2,6 +2,7 @@
 
 ghost use Rattle.std.specs.Prelude.{◌≡◌, ℕ, false, true, [], ◌∷◌, Some, None, pos};
 ghost use Rattle.qvm_ring.specs.Ring.{unit};
+ghost use Rattle.qvm_ring.specs.Examples.{bell_pair};
 ghost use Rattle.quil_memory.specs.declared.cell_type.CellType.TheVariants.{Bit};
 ghost use Rattle.quil_code.specs.declared.classic.Classic.TheVariants.{Move, Convert};
 ghost use Rattle.quil_code.specs.declared.classic.Bitwise.TheVariants as bitwise;
@@ -13,7 +14,7 @@ ghost use Rattle.quil_code.specs.Program.{Program};
 ghost use Rattle.quil_code.specs.Step.{step, here, needs_word, after_instruction, Goes, Waits, Halts, Faults};
 ghost use Rattle.qvm_step.specs.Words.{zero_seed};
 ghost use Rattle.qvm_step.specs.Run.{finished, Halted, Waiting, StepLimit, Fault};
-ghost use Rattle.qvm_step.specs.Examples.{machine, no_bits, two_as_octet, bell_pair, heavy_ray, cell, passive_around, narrowing, waiting};
+ghost use Rattle.qvm_step.specs.Examples.{machine, no_bits, two_as_octet, heavy_ray, cell, passive_around, narrowing, waiting};
 
 /// A step that needs no word doesn't depend on it.
 #[tactic(auto, using(crate::proofs::Steps::step_without_word))]
