@@ -1,5 +1,9 @@
 //! Rays: exact states of at most 16 qubits up to a factor.
 
+ghost use Rattle.std.specs.Prelude.{◌≡◌, ◌≢◌, []};
+ghost use Rattle.qvm_ring.specs.Gate.{zero_ray};
+ghost use Rattle.qvm_ring.specs.Views.{amplitudes_of};
+
 use crate::amp::Amp;
 use crate::entries::Entry;
 use crate::fault::ApplyFault;
@@ -18,6 +22,18 @@ mod measure;
 pub struct Ray {
     qubits: u32,
     entries: Vec<Entry>,
+}
+
+// Leaves basis state 0 alone, with amplitude 1.
+fn keep_zero(entries: &mut Vec<Entry>)
+    requires { amplitudes_of entries.old.items ≢ [] }
+    ensures { amplitudes_of entries.new.items ≡ zero_ray }
+{
+    entries.truncate(1);
+    entries[0] = Entry {
+        basis: 0,
+        amplitude: Amp::ONE,
+    };
 }
 
 impl Model for Ray {
@@ -48,6 +64,13 @@ impl Ray {
         };
         let entries = Vec::from_slice(alloc, &[first])?;
         Ok(Ray { qubits, entries })
+    }
+
+    /// All of its qubits at 0 again: amplitude 1 at basis state 0. Takes no memory.
+    pub fn restart(&mut self)
+        ensures { self.new ≡ record self.old { amplitudes = zero_ray } }
+    {
+        keep_zero(&mut self.entries);
     }
 
     /// The number of qubits.

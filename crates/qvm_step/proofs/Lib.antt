@@ -1,3 +1,4 @@
-pub mod Programs
-pub mod Steps
 pub mod Descent
+pub mod Examples
+pub mod Places
+pub mod Steps

@@ -1,19 +1,18 @@
-//! The abstract machine on the first cut of Quil: plans, the words of a seed, and one step.
+//! The steps of the abstract machine over linked code, and the words of a seed.
+//!
+//! What one step does stands in `quil_code`'s `specs/Step.antt`, and what a whole run does in `specs/Run.antt`.
 #![tactic(auto)]
 
 mod comparison;
 mod laws;
-mod plan;
-mod state;
-mod step;
-mod stepped;
+mod machine;
+mod measure;
+mod place;
 #[cfg(test)]
 mod tests;
 mod words;
 
-pub use laws::{steps_by_hand, word_matters_at_measure_alone};
-pub use plan::{First, Name, Plan, PlanLine, Region};
-pub use state::{Bits, FirstState};
-pub use step::{first_step, needs_word};
-pub use stepped::{Fault, Stepped};
+pub use laws::{places_by_hand, runs_by_hand, steps_by_hand, word_matters_at_measure_alone};
+pub use machine::{restart, step};
+pub use place::needs_word;
 pub use words::draw;

@@ -2,7 +2,7 @@ use Rattle.std.proofs.Common.{◌≡◌, ◌∙◌, ◌^◌, ◌<◌, arith, ap}
 use Rattle.qvm_ring.specs.Measure.{exceeds, outcome, norm_of, kept, Norm}
 use Rattle.qvm_ring.specs.NormViews.{norm_seen}
 use Rattle.qvm_step.proofs.Steps.{outcome_keeps}
-use Rattle.qvm_step.proofs.step.outcome.Goals as goal
+use Rattle.qvm_step.proofs.measure.outcome.Goals as goal
 
 pub returns-clause-some : goal.returns-clause-some
 returns-clause-some c =
