@@ -1,7 +1,7 @@
 -- The regions that a program declares.
 use Rattle.std.specs.Prelude.{List, map, Option, Some, None, Result, Ok, Err, filter_map, option_map}
-use Rattle.quil_tree.specs.declared.item.CellType.{CellType as Written}
-use Rattle.quil_tree.specs.declared.item.CellType.TheVariants as written
+use Rattle.quil_tree.specs.declared.item.TypeName.{TypeName}
+use Rattle.quil_tree.specs.declared.item.TypeName.TheVariants as type_name
 use Rattle.quil_tree.specs.declared.item.Offset.{Offset as WrittenOffset}
 use Rattle.quil_tree.specs.declared.item.Sharing.{Sharing}
 use Rattle.quil_tree.specs.declared.item.Declaration.{Declaration}
@@ -18,11 +18,11 @@ use Rattle.quil_code.specs.declared.load_fault.LoadFault.{LoadFault}
 use Rattle.quil_code.specs.Faults.{load_fault_of}
 
 -- a declaration as a claim to memory
-abbrev pub cell_type_of : Written → CellType
-cell_type_of written.Bit = cell_type.Bit
-cell_type_of written.Octet = cell_type.Octet
-cell_type_of written.Integer = cell_type.Integer
-cell_type_of written.Real = cell_type.Real
+abbrev pub cell_type_of : TypeName → CellType
+cell_type_of type_name.Bit = cell_type.Bit
+cell_type_of type_name.Octet = cell_type.Octet
+cell_type_of type_name.Integer = cell_type.Integer
+cell_type_of type_name.Real = cell_type.Real
 
 abbrev pub offset_of : WrittenOffset → Offset
 offset_of o = record { count = o.count.value; kind = cell_type_of o.kind }

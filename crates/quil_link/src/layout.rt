@@ -7,17 +7,17 @@ ghost use Rattle.quil_link.specs.Steps.{with_item};
 
 use quil_code::LoadFault;
 use quil_memory::{CellType, Claim, Layout, Name, Offset, Offsets, Share};
-use quil_tree::{Declaration, Item, Sharing};
+use quil_tree::{Declaration, Item, Sharing, TypeName};
 use std::alloc::{AllocError, Global};
 
-fn cell_type_of(kind: quil_tree::CellType) -> CellType
+fn cell_type_of(kind: TypeName) -> CellType
     ensures { result ≡ cell_type_of kind }
 {
     match kind {
-        quil_tree::CellType::Bit => CellType::Bit,
-        quil_tree::CellType::Octet => CellType::Octet,
-        quil_tree::CellType::Integer => CellType::Integer,
-        quil_tree::CellType::Real => CellType::Real,
+        TypeName::Bit => CellType::Bit,
+        TypeName::Octet => CellType::Octet,
+        TypeName::Integer => CellType::Integer,
+        TypeName::Real => CellType::Real,
     }
 }
 

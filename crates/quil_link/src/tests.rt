@@ -89,6 +89,19 @@ DECLARE a BIT⏎MOVE a[1] 1⏎MOVE a 2 => 14 OutOfRange index=1 length=1 word=a
 DECLARE a BIT⏎MOVE a 2⏎⏎CNOT 3 3 => 26 TypeClash line=2
 DECLARE a BIT⏎CNOT 3 3⏎⏎MOVE a 2 => 19 RepeatedQubit line=2
 CNOT 3 3⏎MOVE c 1 => 19 RepeatedQubit line=1
+DECLARE a INTEGER⏎DECLARE b BIT[65] SHARING a⏎DECLARE c OCTET SHARING a OFFSET 4 BIT => 11 ShareOutside word=b
+DECLARE a INTEGER⏎DECLARE c OCTET SHARING a OFFSET 4 BIT⏎DECLARE b BIT[65] SHARING a => 12 Misaligned word=c
+DECLARE a INTEGER⏎DECLARE b BIT[65] SHARING a⏎DECLARE d INTEGER[1024] => 11 ShareOutside word=b
+DECLARE a INTEGER⏎DECLARE d INTEGER[1024]⏎DECLARE b BIT[65] SHARING a => 13 MemoryTooLarge bits=65600
+DECLARE a INTEGER⏎DECLARE c OCTET SHARING a OFFSET 4 BIT⏎DECLARE d INTEGER[1024] => 12 Misaligned word=c
+DECLARE a INTEGER⏎DECLARE d INTEGER[1024]⏎DECLARE c OCTET SHARING a OFFSET 4 BIT => 13 MemoryTooLarge bits=65600
+DECLARE b BIT SHARING a⏎DECLARE d INTEGER[1025] => 10 UnknownRegion word=a
+DECLARE d INTEGER[1025]⏎DECLARE b BIT SHARING a => 13 MemoryTooLarge bits=65600
+DECLARE a BIT⏎DECLARE a BIT⏎DECLARE d INTEGER[1024] => 9 Redeclared word=a
+DECLARE a BIT⏎DECLARE d INTEGER[1024]⏎DECLARE a BIT => 13 MemoryTooLarge bits=65537
+X 0;X 1;X 2;X 3;X 4;X 5;X 6;X 7;X 8;X 9;X 10;X 11;X 12;X 13;X 14;X 15;X 16⏎MOVE c 1 => 10 UnknownRegion word=c
+X 0;X 1;X 2;X 3;X 4;X 5;X 6;X 7;X 8;X 9;X 10;X 11;X 12;X 13;X 14;X 15;X 16⏎DECLARE b BIT⏎MOVE b[1] 1 => 14 OutOfRange index=1 length=1 word=b
+X 0;X 1;X 2;X 3;X 4;X 5;X 6;X 7;X 8;X 9;X 10;X 11;X 12;X 13;X 14;X 15;X 16⏎DECLARE b BIT⏎MOVE b 2 => 26 TypeClash line=3
 ";
     assert_eq!(rt; misses(rt.alloc(), "", 0, table)?.as_str(), "");
     Ok(())
@@ -190,6 +203,7 @@ JUMP-WHEN @a b => 57 NotBuilt line=2
 JUMP-UNLESS @a c => 57 NotBuilt line=2
 X(1) 0 => 57 NotBuilt line=2
 DAGGER X 0 => 57 NotBuilt line=2
+FORKED X 0 1 => 57 NotBuilt line=2
 CONTROLLED X 0 1 => 57 NotBuilt line=2
 x 0 => 57 NotBuilt line=2
 CZ 0 1 => 57 NotBuilt line=2

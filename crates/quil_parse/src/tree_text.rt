@@ -271,12 +271,12 @@ fn line(alloc: Global, line: &Line) -> Said {
     )
 }
 
-fn kind(kind: CellType) -> &'static str {
+fn kind(kind: TypeName) -> &'static str {
     match kind {
-        CellType::Bit => "BIT",
-        CellType::Octet => "OCTET",
-        CellType::Integer => "INTEGER",
-        CellType::Real => "REAL",
+        TypeName::Bit => "BIT",
+        TypeName::Octet => "OCTET",
+        TypeName::Integer => "INTEGER",
+        TypeName::Real => "REAL",
     }
 }
 

@@ -25,7 +25,7 @@ use Rattle.quil_grammar.specs.Parts.Part.{Made as Maker}
 use Rattle.quil_grammar.specs.Statements.{maybe, length, offset, offsets, sharing, declaration}
 use Rattle.quil_grammar.proofs.Sorts.{same_sort}
 use Rattle.quil_round_trip.specs.Unplaced.{origin, bare_name, bare_sharing, maybe_bare}
-use Rattle.quil_statement.specs.Meaning.{cell_type_of, offsets_of, sharing_of}
+use Rattle.quil_statement.specs.Meaning.{type_name_of, offsets_of, sharing_of}
 use Rattle.quil_round_trip.proofs.Inversion.{Chain, emit, empty, many}
 use Rattle.quil_round_trip.proofs.Words.{Fits, AreFit}
 use Rattle.quil_round_trip.proofs.Soundness.{fits_left}
@@ -41,32 +41,32 @@ use Rattle.quil_round_trip.proofs.Items.{items}
 -- ---- types of cells
 
 -- the words of types: each is printed for the type of its sort
-bit_word : Keyword sort.Bit (type_text (cell_type_of sort.Bit))
+bit_word : Keyword sort.Bit (type_text (type_name_of sort.Bit))
 unfolding word_sort
 bit_word = keyword sort.Bit (codes "BIT") (record { token = refl; one_line = refl }) (λ c. refl)
 
-octet_word : Keyword sort.Octet (type_text (cell_type_of sort.Octet))
+octet_word : Keyword sort.Octet (type_text (type_name_of sort.Octet))
 unfolding word_sort
 octet_word = keyword sort.Octet (codes "OCTET") (record { token = refl; one_line = refl }) (λ c. refl)
 
-integer_word : Keyword sort.Integer (type_text (cell_type_of sort.Integer))
+integer_word : Keyword sort.Integer (type_text (type_name_of sort.Integer))
 unfolding word_sort
 integer_word = keyword sort.Integer (codes "INTEGER") (record { token = refl; one_line = refl }) (λ c. refl)
 
-real_word : Keyword sort.Real (type_text (cell_type_of sort.Real))
+real_word : Keyword sort.Real (type_text (type_name_of sort.Real))
 unfolding word_sort
 real_word = keyword sort.Real (codes "REAL") (record { token = refl; one_line = refl }) (λ c. refl)
 
 abbrev TypeWord : Sort → Type 0
-TypeWord s = Keyword s (type_text (cell_type_of s))
+TypeWord s = Keyword s (type_text (type_name_of s))
 
 pub type_word : (s : Sort) → accepts class.CellType s ≡ true → TypeWord s
 type_word s h = either_sort TypeWord s sort.Bit (is_sort s sort.Octet || (is_sort s sort.Integer || is_sort s sort.Real)) bit_word (either_sort TypeWord s sort.Octet (is_sort s sort.Integer || is_sort s sort.Real) octet_word (either_sort TypeWord s sort.Integer (is_sort s sort.Real) integer_word (last_sort TypeWord s sort.Real real_word))) h
 
-type_chunk : (c : Context) (s : Sort) → accepts class.CellType s ≡ true → Chunk c (One class.CellType) Anything (blank (type_text (cell_type_of s))) (Makes (Says origin class.CellType s) ∷ [])
+type_chunk : (c : Context) (s : Sort) → accepts class.CellType s ≡ true → Chunk c (One class.CellType) Anything (blank (type_text (type_name_of s))) (Makes (Says origin class.CellType s) ∷ [])
 type_chunk c s h =
     let k = type_word s h in
-    with_events (ap (λ u. Makes (Says origin class.CellType u) ∷ []) (k.same c)) (word c class.CellType kind.Name (type_text (cell_type_of s)) k.is_token (subst (λ u. accepts class.CellType u ≡ true) (sym (k.same c)) h) (λ us. refl))
+    with_events (ap (λ u. Makes (Says origin class.CellType u) ∷ []) (k.same c)) (word c class.CellType kind.Name (type_text (type_name_of s)) k.is_token (subst (λ u. accepts class.CellType u ≡ true) (sym (k.same c)) h) (λ us. refl))
 
 -- ---- the length
 
@@ -126,20 +126,20 @@ bare_parts (o ∷ os) = Maker (Counts (whole_of o.number.text)) ∷ Maker (Says 
 
 abbrev meant : {c : Context} → List (ReadOffset c) → List Offset
 meant [] = []
-meant (o ∷ os) = record { count = whole_of o.number.text; kind = cell_type_of o.type.sort } ∷ meant os
+meant (o ∷ os) = record { count = whole_of o.number.text; kind = type_name_of o.type.sort } ∷ meant os
 
 parts_meant : {c : Context} (os : List (ReadOffset c)) → offsets_of (offset_parts os) ≡ meant os
 parts_meant [] = refl
-parts_meant (o ∷ os) = ap (λ xs. record { count = whole_of o.number.text; kind = cell_type_of o.type.sort } ∷ xs) (parts_meant os)
+parts_meant (o ∷ os) = ap (λ xs. record { count = whole_of o.number.text; kind = type_name_of o.type.sort } ∷ xs) (parts_meant os)
 
 bare_meant : {c : Context} (os : List (ReadOffset c)) → offsets_of (bare_parts os) ≡ meant os
 bare_meant [] = refl
-bare_meant (o ∷ os) = ap (λ xs. record { count = whole_of o.number.text; kind = cell_type_of o.type.sort } ∷ xs) (bare_meant os)
+bare_meant (o ∷ os) = ap (λ xs. record { count = whole_of o.number.text; kind = type_name_of o.type.sort } ∷ xs) (bare_meant os)
 
 -- without the places
 parts_placed : {c : Context} (os : List (ReadOffset c)) → offsets_of (map bare_part (offset_parts os)) ≡ meant os
 parts_placed [] = refl
-parts_placed (o ∷ os) = ap (λ xs. record { count = whole_of o.number.text; kind = cell_type_of o.type.sort } ∷ xs) (parts_placed os)
+parts_placed (o ∷ os) = ap (λ xs. record { count = whole_of o.number.text; kind = type_name_of o.type.sort } ∷ xs) (parts_placed os)
 
 read_offset : (c : Context) {ts us : List Token} {os : List Event} → Reads quil tables offset ts (Made os us) → AreFit c ts → (o : ReadOffset c) × (os ≡ Makes (Counts (whole_of o.number.text)) ∷ Makes (Says o.type.place class.CellType o.type.sort) ∷ [])
 read_offset c r f =
@@ -155,7 +155,7 @@ read_more c (Chain.link r q) f =
     let more = read_more c q (fits_left c r f) in
     (o.0 ∷ more.0, ap₂ (λ u v. u ++ v) o.1 more.1)
 
-offset_piece : (c : Context) (o : ReadOffset c) → Piece c offset Anything (o.number.text ++ blank (type_text (cell_type_of o.type.sort))) (Makes (Counts (whole_of o.number.text)) ∷ Makes (Says origin class.CellType o.type.sort) ∷ [])
+offset_piece : (c : Context) (o : ReadOffset c) → Piece c offset Anything (o.number.text ++ blank (type_text (type_name_of o.type.sort))) (Makes (Counts (whole_of o.number.text)) ∷ Makes (Says origin class.CellType o.type.sort) ∷ [])
 offset_piece c o = piece_then (copy_piece c class.OffsetCount o.number o.fits o.accepted (λ us. o.small)) (type_chunk c o.type.sort o.taken) (λ us k. tt)
 
 one_offset : (n t more : List ℕ) → blank (n ++ blank t) ++ more ≡ (codes " " ++ n ++ codes " " ++ t) ++ more
@@ -166,7 +166,7 @@ none_here us e = subst (λ vs. starts quil tables offset vs ≡ false) (sym e) r
 
 more_offsets : (c : Context) (os : List (ReadOffset c)) → Chunk c (Many offset) AtEnd (flat_map offset_text (meant os)) (parts_events (bare_parts os))
 more_offsets c [] = many_none c offset none_here
-more_offsets c (o ∷ os) = with_text (one_offset o.number.text (type_text (cell_type_of o.type.sort)) (flat_map offset_text (meant os))) (many_more (open_piece (offset_piece c o)) (more_offsets c os) (λ us k. tt))
+more_offsets c (o ∷ os) = with_text (one_offset o.number.text (type_text (type_name_of o.type.sort)) (flat_map offset_text (meant os))) (many_more (open_piece (offset_piece c o)) (more_offsets c os) (λ us k. tt))
 
 record ReadOffsets (c : Context) (os : List Event) : Type 0 where
   pub list : List (ReadOffset c)
@@ -177,7 +177,7 @@ offsets_chunk : (c : Context) (o : ReadOffset c) (os : List (ReadOffset c)) → 
 unfolding word_sort
 offsets_chunk c o os =
     maybe_piece (piece_then (word_piece c class.Offset kind.Name (codes "OFFSET") (record { token = refl; one_line = refl }) refl (λ us. refl))
-    (with_text (one_offset o.number.text (type_text (cell_type_of o.type.sort)) (flat_map offset_text (meant os))) (before_anything (open_piece (offset_piece c o)).chunk (more_offsets c os))) (λ us k. tt))
+    (with_text (one_offset o.number.text (type_text (type_name_of o.type.sort)) (flat_map offset_text (meant os))) (before_anything (open_piece (offset_piece c o)).chunk (more_offsets c os))) (λ us k. tt))
 
 read_offsets : (c : Context) (ts : List Token) (os : List Event) → Reads quil tables (maybe offsets) ts (Made os []) → AreFit c ts → ReadOffsets c os
 unfolding quil tables
@@ -253,14 +253,14 @@ declaration_again c t ts os f r =
     let name = name_at n.token in
     let type = s.token.sort in
     word_then items c class.Declare rest t os
-    (item.Declare (record { place = t.place; name = name; kind = cell_type_of type; length = l.number; sharing = m.shared }))
+    (item.Declare (record { place = t.place; name = name; kind = type_name_of type; length = l.number; sharing = m.shared }))
     (Maker (Says t.place class.Declare t.sort) ∷ Maker (Names name) ∷ Maker (Says s.token.place class.CellType type) ∷ Maker (Counts l.number) ∷ m.parts)
     (h.makes ∙ ap (λ xs. Makes (Says t.place class.Declare t.sort) ∷ xs) (a.makes ∙ ap₂ (λ u v. u ++ v) n.makes (b.makes ∙ ap₂ (λ u v. u ++ v) s.makes (d.makes ∙ ap₂ (λ u v. u ++ v) l.makes m.makes))))
-    (ap (λ x. Some (item.Declare (record { place = t.place; name = name; kind = cell_type_of type; length = l.number; sharing = x }))) m.means)
-    (ap (λ x. Some (item.Declare (record { place = origin; name = bare_name name; kind = cell_type_of type; length = l.number; sharing = x }))) m.placed)
+    (ap (λ x. Some (item.Declare (record { place = t.place; name = name; kind = type_name_of type; length = l.number; sharing = x }))) m.means)
+    (ap (λ x. Some (item.Declare (record { place = origin; name = bare_name name; kind = type_name_of type; length = l.number; sharing = x }))) m.placed)
     (codes "DECLARE") _ _
     (Maker (Says origin class.Declare sort.Declare) ∷ Maker (Names (bare_name name)) ∷ Maker (Says origin class.CellType type) ∷ Maker (Counts l.number) ∷ m.bare_parts)
     (record { token = refl; one_line = refl }) (sym (same_sort t.sort sort.Declare h.accepted)) h.accepted (λ us. refl)
     (before_anything (copied_name c class.Named n.token n.fits n.accepted (λ us. refl) refl) (before_anything (type_chunk c type s.accepted) (before_anything l.chunk m.chunk)))
-    refl (declared_text name.text (type_text (cell_type_of type)) l.number.digits (sharing_text m.shared))
-    (ap (λ x. Some (item.Declare (record { place = origin; name = bare_name name; kind = cell_type_of type; length = l.number; sharing = x }))) m.bare_means)
+    refl (declared_text name.text (type_text (type_name_of type)) l.number.digits (sharing_text m.shared))
+    (ap (λ x. Some (item.Declare (record { place = origin; name = bare_name name; kind = type_name_of type; length = l.number; sharing = x }))) m.bare_means)

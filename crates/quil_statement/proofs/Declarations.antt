@@ -8,7 +8,7 @@ use Rattle.quil_shape.proofs.Reading.{choice_first, choice_not_first, empty_adva
 use Rattle.quil_tree.specs.declared.place.Place.{Place}
 use Rattle.quil_tree.specs.declared.expr.Whole.{Whole}
 use Rattle.quil_tree.specs.declared.statement.Name.{Name as Called}
-use Rattle.quil_tree.specs.declared.item.CellType.{CellType}
+use Rattle.quil_tree.specs.declared.item.TypeName.{TypeName}
 use Rattle.quil_tree.specs.declared.item.Offset.{Offset}
 use Rattle.quil_tree.specs.declared.item.Sharing.{Sharing}
 use Rattle.quil_tree.specs.declared.item.Item.TheVariants as item
@@ -23,7 +23,7 @@ use Rattle.quil_grammar.specs.Frames.{is_next, StopsFor}
 use Rattle.quil_grammar.specs.Statements.{maybe, length, some_length, offset, offsets, sharing, declaration}
 use Rattle.quil_grammar.specs.Parts.{Part, parts_events}
 use Rattle.quil_grammar.specs.Parts.Part.{Made}
-use Rattle.quil_statement.specs.Meaning.{cell_type_of, offsets_of}
+use Rattle.quil_statement.specs.Meaning.{type_name_of, offsets_of}
 use Rattle.quil_statement.specs.Says.{Reads, SaysItem}
 use Rattle.quil_statement.specs.Loops.{Leads, IsOffset, OffsetsSoFar, AreOffsets, IsSharing, MaybeShares}
 use Rattle.quil_statement.proofs.Sequences.{reads_both, stops_second, stops_third, stops_fourth, stops_in_first}
@@ -53,7 +53,7 @@ pub length_stops : (us vs : List Token) (e : Stop) → is_next class.IndexBegins
 length_stops us vs e n r = stops_in_first some_length _ us vs e (length_starts us n) r
 
 -- offsets
-pub offset_read : (us vs ws : List Token) (n : Whole) (p : Place) (s : Sort) (k : CellType) → Reads (One class.OffsetCount) us vs (Made (Counts n) ∷ []) → Reads (One class.CellType) vs ws (Made (Says p class.CellType s) ∷ []) → k ≡ cell_type_of s → IsOffset us ws (record { count = n; kind = k })
+pub offset_read : (us vs ws : List Token) (n : Whole) (p : Place) (s : Sort) (k : TypeName) → Reads (One class.OffsetCount) us vs (Made (Counts n) ∷ []) → Reads (One class.CellType) vs ws (Made (Says p class.CellType s) ∷ []) → k ≡ type_name_of s → IsOffset us ws (record { count = n; kind = k })
 offset_read us vs ws n p s k r q e =
     record {
       count = n;
@@ -142,8 +142,8 @@ unfolding quil tables
 no_sharing [] vs e f = rw f (record { parts = []; reads = choice_not_first refl empty_advances; means = refl })
 no_sharing (t ∷ us) vs e f = rw f (record { parts = []; reads = choice_not_first (rw e refl) empty_advances; means = refl })
 
-pub declaration_said : (us vs ws xs ys zs : List Token) (p q : Place) (s t : Sort) (n : Called) (k : CellType) (l : Whole) (o : Option Sharing)
-    → Reads (One class.Declare) us vs (Made (Says p class.Declare s) ∷ []) → Reads (One class.Named) vs ws (Made (Names n) ∷ []) → Reads (One class.CellType) ws xs (Made (Says q class.CellType t) ∷ []) → k ≡ cell_type_of t → Reads length xs ys (Made (Counts l) ∷ []) → MaybeShares ys zs o
+pub declaration_said : (us vs ws xs ys zs : List Token) (p q : Place) (s t : Sort) (n : Called) (k : TypeName) (l : Whole) (o : Option Sharing)
+    → Reads (One class.Declare) us vs (Made (Says p class.Declare s) ∷ []) → Reads (One class.Named) vs ws (Made (Names n) ∷ []) → Reads (One class.CellType) ws xs (Made (Says q class.CellType t) ∷ []) → k ≡ type_name_of t → Reads length xs ys (Made (Counts l) ∷ []) → MaybeShares ys zs o
     → SaysItem declaration us zs (item.Declare (record { place = p; name = n; kind = k; length = l; sharing = o }))
 declaration_said us vs ws xs ys zs p q s t n k l o a b c e d h =
     let last = Made (Counts l) ∷ h.parts in

@@ -27,7 +27,7 @@ use Rattle.quil_grammar.specs.Frames.{is_next}
 use Rattle.quil_grammar.specs.Statements.{maybe, behind_name, named, modified, modified_gate, offset, sharing, gate_shape}
 use Rattle.quil_grammar.specs.Parts.{Part, parts_events}
 use Rattle.quil_grammar.specs.Parts.Part.{Made, Value}
-use Rattle.quil_statement.specs.Meaning.{modification_of, worded, gate_of, cell_type_of, offsets_of, sharing_of, gate_form, taken_of}
+use Rattle.quil_statement.specs.Meaning.{modification_of, worded, gate_of, type_name_of, offsets_of, sharing_of, gate_form, taken_of}
 use Rattle.quil_statement.specs.Says.{Reads}
 
 -- where reading the first shape comes to the second, these parts have been read
@@ -140,7 +140,7 @@ pub record IsOffset (ts us : List Token) (o : Offset) : Type 0 where
   pub place : Place
   pub sort : Sort
   pub reads : Reads offset ts us (Made (Counts count) ∷ Made (Says place class.CellType sort) ∷ [])
-  pub is_meant : o ≡ record { count = count; kind = cell_type_of sort }
+  pub is_meant : o ≡ record { count = count; kind = type_name_of sort }
 
 pub record OffsetsSoFar (ts us : List Token) (os : List Offset) : Type 0 where
   pub parts : List Part

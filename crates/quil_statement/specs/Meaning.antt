@@ -13,8 +13,8 @@ use Rattle.quil_tree.specs.declared.statement.Modifier.{Modifier}
 use Rattle.quil_tree.specs.declared.statement.Statement.{Statement}
 use Rattle.quil_tree.specs.declared.statement.Statement.TheVariants as statement
 use Rattle.quil_tree.specs.declared.statement.Line.{Line}
-use Rattle.quil_tree.specs.declared.item.CellType.{CellType}
-use Rattle.quil_tree.specs.declared.item.CellType.TheVariants as cell_type
+use Rattle.quil_tree.specs.declared.item.TypeName.{TypeName}
+use Rattle.quil_tree.specs.declared.item.TypeName.TheVariants as type_name
 use Rattle.quil_tree.specs.declared.item.Offset.{Offset}
 use Rattle.quil_tree.specs.declared.item.Sharing.{Sharing}
 use Rattle.quil_tree.specs.declared.item.Form.{Form}
@@ -175,11 +175,11 @@ line_of (Made (Names n) ∷ ps) = at n.place (gate_of (Made (Names n) ∷ ps))
 line_of _ = None
 
 -- a declaration
-abbrev pub cell_type_of : Sort → CellType
-cell_type_of s = if is_sort s sort.Bit then cell_type.Bit else (if is_sort s sort.Octet then cell_type.Octet else (if is_sort s sort.Integer then cell_type.Integer else cell_type.Real))
+abbrev pub type_name_of : Sort → TypeName
+type_name_of s = if is_sort s sort.Bit then type_name.Bit else (if is_sort s sort.Octet then type_name.Octet else (if is_sort s sort.Integer then type_name.Integer else type_name.Real))
 
 abbrev pub offsets_of : List Part → List Offset
-offsets_of (Made (Counts n) ∷ Made (Says p c s) ∷ ps) = record { count = n; kind = cell_type_of s } ∷ offsets_of ps
+offsets_of (Made (Counts n) ∷ Made (Says p c s) ∷ ps) = record { count = n; kind = type_name_of s } ∷ offsets_of ps
 offsets_of _ = []
 
 abbrev pub sharing_of : List Part → Option Sharing
@@ -187,7 +187,7 @@ sharing_of (Made (Names b) ∷ ps) = Some (record { base = b; offsets = offsets_
 sharing_of _ = None
 
 abbrev pub declaration_of : Place → List Part → Option Item
-declaration_of p (Made (Names n) ∷ Made (Says q c s) ∷ Made (Counts l) ∷ ps) = Some (item.Declare (record { place = p; name = n; kind = cell_type_of s; length = l; sharing = sharing_of ps }))
+declaration_of p (Made (Names n) ∷ Made (Says q c s) ∷ Made (Counts l) ∷ ps) = Some (item.Declare (record { place = p; name = n; kind = type_name_of s; length = l; sharing = sharing_of ps }))
 declaration_of p _ = None
 
 -- a definition, whose body is still to come

@@ -6,26 +6,26 @@ ghost use Rattle.quil_grammar.specs.Grammar.Piece.{Counts};
 ghost use Rattle.quil_grammar.specs.Frames.{StopsFor};
 ghost use Rattle.quil_grammar.specs.Parts.Part.{Made};
 ghost use Rattle.quil_grammar.specs.Statements.{maybe, length as length_shape, some_length, offset, offsets, sharing, declaration};
-ghost use Rattle.quil_statement.specs.Meaning.{cell_type_of};
+ghost use Rattle.quil_statement.specs.Meaning.{type_name_of};
 ghost use Rattle.quil_statement.specs.Says.{Reads, SaysItem};
 ghost use Rattle.quil_statement.specs.Loops.{IsOffset, AreOffsets, IsSharing, MaybeShares};
 
 use crate::parser::Parser;
 use quil_grammar::{Class, Sort, Stop};
-use quil_tree::{CellType, Declaration, Item, List, Offset, Sharing, Text, Whole};
+use quil_tree::{Declaration, Item, List, Offset, Sharing, Text, TypeName, Whole};
 use std::alloc::Global;
 
-fn cell_type_of(word: Sort) -> CellType
-    ensures { result ≡ cell_type_of word }
+fn type_name_of(word: Sort) -> TypeName
+    ensures { result ≡ type_name_of word }
 {
     if word.is(Sort::Bit) {
-        CellType::Bit
+        TypeName::Bit
     } else if word.is(Sort::Octet) {
-        CellType::Octet
+        TypeName::Octet
     } else if word.is(Sort::Integer) {
-        CellType::Integer
+        TypeName::Integer
     } else {
-        CellType::Real
+        TypeName::Real
     }
 }
 
@@ -67,7 +67,7 @@ impl<'a, 'b> Parser<'a, 'b> {
         let (_, word) = self.word(Class::CellType)?;
         Ok(Offset {
             count,
-            kind: cell_type_of(word),
+            kind: type_name_of(word),
         })
     }
 
@@ -150,7 +150,7 @@ impl<'a, 'b> Parser<'a, 'b> {
         Ok(Item::Declare(Declaration {
             place,
             name,
-            kind: cell_type_of(word),
+            kind: type_name_of(word),
             length,
             sharing,
         }))

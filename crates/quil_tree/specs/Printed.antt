@@ -25,8 +25,8 @@ use Rattle.quil_tree.specs.declared.statement.Modification.TheVariants as modifi
 use Rattle.quil_tree.specs.declared.statement.Gate.{Gate}
 use Rattle.quil_tree.specs.declared.statement.Statement.{Statement}
 use Rattle.quil_tree.specs.declared.statement.Statement.TheVariants as statement
-use Rattle.quil_tree.specs.declared.item.CellType.{CellType}
-use Rattle.quil_tree.specs.declared.item.CellType.TheVariants as cell_type
+use Rattle.quil_tree.specs.declared.item.TypeName.{TypeName}
+use Rattle.quil_tree.specs.declared.item.TypeName.TheVariants as type_name
 use Rattle.quil_tree.specs.declared.item.Offset.{Offset}
 use Rattle.quil_tree.specs.declared.item.Sharing.{Sharing}
 use Rattle.quil_tree.specs.declared.item.Declaration.{Declaration}
@@ -222,11 +222,11 @@ statement_text names (statement.Le r a x) = compared names (codes "LE") r a x
 
 -- ---- declarations and definitions
 
-abbrev pub type_text : CellType → List ℕ
-type_text cell_type.Bit = codes "BIT"
-type_text cell_type.Octet = codes "OCTET"
-type_text cell_type.Integer = codes "INTEGER"
-type_text cell_type.Real = codes "REAL"
+abbrev pub type_text : TypeName → List ℕ
+type_text type_name.Bit = codes "BIT"
+type_text type_name.Octet = codes "OCTET"
+type_text type_name.Integer = codes "INTEGER"
+type_text type_name.Real = codes "REAL"
 
 abbrev pub offset_text : Offset → List ℕ
 offset_text o = codes " " ++ o.count.digits ++ codes " " ++ type_text o.kind

@@ -6,9 +6,9 @@ use crate::place::Place;
 use crate::statement::{Formula, Line, Name};
 use crate::text::Text;
 
-/// The type of a region's cells: of 1, 8, 64 and 64 bits.
+/// The type of a region's cells as a declaration writes it: of 1, 8, 64 and 64 bits.
 #[derive(Clone, Copy, Debug, PartialEq, Eq)]
-pub enum CellType {
+pub enum TypeName {
     Bit,
     Octet,
     Integer,
@@ -19,7 +19,7 @@ pub enum CellType {
 #[derive(Drop)]
 pub struct Offset {
     pub count: Whole,
-    pub kind: CellType,
+    pub kind: TypeName,
 }
 
 /// The region whose bits a declared region shares, and how far behind its first bit it begins.
@@ -34,7 +34,7 @@ pub struct Sharing {
 pub struct Declaration {
     pub place: Place,
     pub name: Name,
-    pub kind: CellType,
+    pub kind: TypeName,
     /// How many cells it has: 1 where none is written.
     pub length: Whole,
     pub sharing: Option<Sharing>,

@@ -19,7 +19,7 @@ mod text;
 
 pub use expr::{Action, Address, Atom, Expr, Function, Operator, Sign, Step, Whole};
 pub use item::{
-    CellType, CircuitDefinition, Declaration, Form, GateDefinition, Item, Offset, Sharing, Tree,
+    CircuitDefinition, Declaration, Form, GateDefinition, Item, Offset, Sharing, Tree, TypeName,
 };
 pub use laws::one_tree;
 pub use list::List;

@@ -5,7 +5,7 @@ ghost use Rattle.std.specs.List.{flat_map};
 ghost use Rattle.quil_tree.specs.Printed.{declaration_text, offset_text, offsets_text, sharing_text, type_text};
 
 use crate::expr::Whole;
-use crate::item::{CellType, Declaration, Offset, Sharing};
+use crate::item::{Declaration, Offset, Sharing, TypeName};
 use crate::printer::word;
 use std::alloc::AllocError;
 
@@ -22,11 +22,11 @@ pub(crate) fn push_declaration(
 }
 
 // A type, with the number of cells.
-fn push_type(text: &mut Vec<u8>, kind: CellType, length: &Whole) -> Result<(), AllocError>
+fn push_type(text: &mut Vec<u8>, kind: TypeName, length: &Whole) -> Result<(), AllocError>
     ensures { OnOk result (text.new.items ≡ text.old.items ++ (codes " " ++ type_text kind ++ codes "[" ++ length.now.digits ++ codes "]")) }
 {
     text.extend_from_slice(b" ")?;
-    text.extend_from_slice(word::cell_type(kind))?;
+    text.extend_from_slice(word::type_name(kind))?;
     text.extend_from_slice(b"[")?;
     text.extend_from_slice(length.digits.as_bytes())?;
     text.extend_from_slice(b"]")
@@ -70,5 +70,5 @@ fn push_offset(text: &mut Vec<u8>, offset: &Offset) -> Result<(), AllocError>
     text.extend_from_slice(b" ")?;
     text.extend_from_slice(offset.count.digits.as_bytes())?;
     text.extend_from_slice(b" ")?;
-    text.extend_from_slice(word::cell_type(offset.kind))
+    text.extend_from_slice(word::type_name(offset.kind))
 }

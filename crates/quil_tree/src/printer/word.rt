@@ -4,7 +4,7 @@ ghost use Rattle.std.specs.Prelude.{◌≡◌};
 ghost use Rattle.quil_tree.specs.Printed.{function_text, modification_text, operator_text, sign_text, type_text};
 
 use crate::expr::{Function, Operator, Sign};
-use crate::item::CellType;
+use crate::item::TypeName;
 use crate::statement::Modification;
 
 pub(crate) fn sign(sign: Sign) -> &'static [u8]
@@ -51,13 +51,13 @@ pub(crate) fn modification(kind: Modification) -> &'static [u8]
     }
 }
 
-pub(crate) fn cell_type(kind: CellType) -> &'static [u8]
+pub(crate) fn type_name(kind: TypeName) -> &'static [u8]
     ensures { result.now ≡ type_text kind }
 {
     match kind {
-        CellType::Bit => b"BIT",
-        CellType::Octet => b"OCTET",
-        CellType::Integer => b"INTEGER",
-        CellType::Real => b"REAL",
+        TypeName::Bit => b"BIT",
+        TypeName::Octet => b"OCTET",
+        TypeName::Integer => b"INTEGER",
+        TypeName::Real => b"REAL",
     }
 }
