@@ -75,8 +75,8 @@ module _ (program : Program) (limit done : ℕ) (m : Quantum) (draws : ℕ) (r :
       → Runs program limit (done + 1) m' draws'
   Runs-went m' draws' h e c f = record {
     left =
-      let fewer : limit - (done + 1) ≡ limit - done - 1 = omega arith in
-      ap (λ (n : ℕ). finished n program zero_seed m' draws') fewer ∙ ap (finished (limit - done - 1) program zero_seed m') c ∙ after_step (Goes m') h e;
+        let fewer : limit - (done + 1) ≡ limit - done - 1 = omega arith in
+        ap (λ (n : ℕ). finished n program zero_seed m' draws') fewer ∙ ap (finished (limit - done - 1) program zero_seed m') c ∙ after_step (Goes m') h e;
     fits = f;
     few = subst (λ (n : ℕ). n ≤ done + 1) (sym c) (count_le (needs_word program m) draws done r.few);
   }

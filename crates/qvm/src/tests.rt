@@ -184,7 +184,7 @@ fn repeated(alloc: Global, line: &str, count: usize) -> Result<String, AllocErro
     Ok(text)
 }
 
-// So many copies of a piece come to this, read whole or byte by byte.
+// So many copies of a piece come to this.
 fn check_copies(
     rt: &impl Abort,
     alloc: Global,
@@ -193,24 +193,38 @@ fn check_copies(
     want: &str,
 ) -> Result<(), Fail> {
     let text = repeated(alloc, piece, count)?;
-    assert_eq!(rt; told(alloc, &text, 0)?.as_str(), want, "of {count} times {piece}");
-    assert_eq!(rt; told(alloc, &text, 1)?.as_str(), want, "of {count} times {piece}");
+    assert_eq!(rt;
+        told(alloc, &text, 0)?.as_str(),
+        want,
+        "of {count} times {piece}"
+    );
     Ok(())
 }
 
 #[test]
-fn limits(rt: HostRuntime) -> Result<(), Fail> {
+fn limits_of_a_text(rt: HostRuntime) -> Result<(), Fail> {
     let alloc = rt.alloc();
     let too_long = "1 error: 7 TextTooLong length=1048577⏎";
     check_copies(&rt, alloc, "\n", 1_048_576, "0")?;
     check_copies(&rt, alloc, "\n", 1_048_577, too_long)?;
-    check_copies(&rt, alloc, "\n", 1_048_600, too_long)?;
+    check_copies(&rt, alloc, "\n", 1_048_600, too_long)
+}
+
+#[test]
+fn limits_of_a_program(rt: HostRuntime) -> Result<(), Fail> {
+    let alloc = rt.alloc();
     let too_many = "1 error: 23 TooManyInstructions count=65537⏎";
     check_copies(&rt, alloc, "X 0\n", 65_536, "0")?;
     check_copies(&rt, alloc, "X 0\n", 65_537, too_many)?;
     let zeros = repeated(alloc, " 0", 65_535)?;
     let memory = format!(in alloc; "0 aa:{}⏎bb: 0⏎", zeros.as_str())?;
-    check_copies(&rt, alloc, "DECLARE aa BIT[65535]\nDECLARE bb BIT", 1, &memory)
+    check_copies(
+        &rt,
+        alloc,
+        "DECLARE aa BIT[65535]\nDECLARE bb BIT",
+        1,
+        &memory,
+    )
 }
 
 // X on three of sixteen qubits, and H twice on each.
