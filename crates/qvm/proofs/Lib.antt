@@ -1,11 +1,4 @@
-pub mod Numerals
-pub mod Forms
-pub mod NamedRegions
-pub mod Unique
-pub mod Results
-pub mod Items
-pub mod Decisions
+pub mod Texts
 pub mod WordLemmas
 pub mod Runs
-pub mod Regions
 pub mod Replies

@@ -1,38 +1,33 @@
 -- What the code's run has of the definition's.
 use Rattle.std.specs.Prelude.{◌≡◌, ℕ, ◌+◌, true, if◌then◌else◌}
-use Rattle.qvm_step.specs.declared.state.FirstState.{FirstState}
-use Rattle.qvm_step.specs.declared.stepped.Fault.{Fault as CodeFault}
-use Rattle.qvm_step.specs.declared.stepped.Fault.TheVariants.{AmplitudeLimit as Exceeds}
-use Rattle.qvm_step.specs.Program.{Program}
+use Rattle.quil_code.specs.declared.quantum.Quantum.{Quantum}
+use Rattle.quil_code.specs.Program.{Program}
+use Rattle.quil_code.specs.Step.{needs_word}
 use Rattle.qvm_step.specs.Words.{draw, zero_seed}
-use Rattle.qvm_step.specs.Step.{needs_word}
-use Rattle.qvm_step.specs.Run.{End, Finished, finished}
+use Rattle.qvm_step.specs.Run.{End, Finished}
+use Rattle.qvm_step.specs.Run as run
 use Rattle.qvm.specs.declared.run.End.{End as CodeEnd}
 use Rattle.qvm.specs.declared.run.End.TheVariants as code
 use Rattle.qvm.specs.declared.run.Finish.{Finish}
-use Rattle.qvm_step.specs.Run as run
 use Rattle.qvm.specs.declared.answer.Reply.{Reply as CodeReply}
 use Rattle.qvm.specs.RunText.{Reply}
 
 -- the end that the code names
 abbrev pub end_seen : CodeEnd → End
 end_seen code.Halted = run.Halted
+end_seen code.Waiting = run.Waiting
 end_seen code.StepLimit = run.StepLimit
-end_seen (code.AmplitudeLimit line) = run.AmplitudeLimit line
+end_seen (code.Fault f) = run.Fault f
 
 -- the code's run ended as the definition's
 pub record EndsAs (finish : Finish) (f : Finished) : Type 0 where
-  pub bits : finish.bits ≡ f.machine.bits
+  pub memory : finish.memory ≡ f.machine.memory
   pub end : end_seen finish.end ≡ f.end
 
 -- the word is the next of the seed, and is then used up, where the step needs one
-pub record NextWord (program : Program) (m : FirstState) (draws draws' word : ℕ) : Type 0 where
+pub record NextWord (program : Program) (m : Quantum) (draws draws' word : ℕ) : Type 0 where
   pub drawn : needs_word program m ≡ true → word ≡ draw zero_seed draws
   pub count : draws' ≡ (if needs_word program m then draws + 1 else draws)
-
--- the line of a fault
-abbrev pub line_of : CodeFault → ℕ
-line_of (Exceeds line) = line
 
 -- the reply that the code holds
 abbrev pub reply_seen : CodeReply → Reply

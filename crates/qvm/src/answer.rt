@@ -1,23 +1,19 @@
 //! The reply to a text: what is printed, and the status.
 
-ghost use Rattle.std.specs.Prelude.{◌≡◌, ◌≢◌, ◌+◌, ◌<◌, ◌≤◌, ◌++◌, length, OnOk, IfOk, All};
-ghost use Rattle.quil_grammar.specs.declared.fault.ReadFault.TheVariants.{OutOfMemory};
-ghost use Rattle.qvm_step.specs.Program.{bits_of};
+ghost use Rattle.std.specs.Prelude.{◌≡◌, ◌≢◌, ◌<◌, ◌++◌, OnOk, IfOk, Ok, Err};
+ghost use Rattle.quil_code.specs.declared.load_fault.LoadFault.TheVariants.{OutOfMemory};
+ghost use Rattle.qvm_step.specs.Words.{zero_seed};
 ghost use Rattle.qvm.specs.Ends.{end_seen, reply_seen};
 ghost use Rattle.qvm.specs.Calls.{step_limit};
-ghost use Rattle.qvm.specs.RunText.{IsReplyTo, IsReplyToTree, end_text, end_status, run_reply, fault_report, not_built_report, refusal_reply};
+ghost use Rattle.qvm.specs.RunText.{IsReplyTo, end_text, end_status, reply_of};
 
-use crate::plan::{FirstFault, plan_of};
-use crate::refusal::{diagnostic_of, of_line, push_line};
 use crate::run::{End, run};
-use crate::text::memory_text;
-use quil_parse::{ReadFault, parse};
-use quil_tree::Tree;
-use qvm_diagnostic::Diagnostic;
-use qvm_step::Plan;
+use crate::text::{memory_text, push_line};
+use quil_code::{Code, LoadFault};
+use quil_link::load;
 use std::alloc::{AllocError, Global};
 
-// The most steps of a run. No text of the cut reaches it.
+// The most steps of a run.
 const STEP_LIMIT: u32 = 1_000_000;
 
 const REFUSED: u8 = 1;
@@ -35,7 +31,8 @@ fn end_status(end: End) -> u8
 {
     match end {
         End::Halted => 0,
-        End::AmplitudeLimit(_) => 4,
+        End::Waiting => 3,
+        End::Fault(_) => 4,
         End::StepLimit => 5,
     }
 }
@@ -46,23 +43,19 @@ fn push_end(alloc: Global, output: &mut Vec<u8>, end: End) -> Result<(), AllocEr
 {
     match end {
         End::Halted => Ok(()),
-        End::AmplitudeLimit(line) => {
-            let fault = of_line(28, "AmplitudeLimit", line);
-            push_line(alloc, output, "fault: ", &fault)
-        }
-        End::StepLimit => {
-            output.extend_from_slice(b"step limit\n")?;
-            Ok(())
-        }
+        End::Waiting => output.extend_from_slice(b"waiting\n"),
+        End::StepLimit => output.extend_from_slice(b"step limit\n"),
+        End::Fault(fault) => push_line(alloc, output, "fault: ", &fault.diagnostic()),
     }
 }
 
-fn run_reply(alloc: Global, plan: &Plan) -> Result<Reply, AllocError>
-    ensures reply { IfOk result (λ reply. reply_seen reply ≡ run_reply step_limit plan.now) }
+// The reply to a text that is a program.
+fn run_reply(alloc: Global, code: &Code) -> Result<Reply, AllocError>
+    ensures reply { IfOk result (λ reply. reply_seen reply ≡ reply_of step_limit zero_seed (Ok code.now)) }
     ensures status { IfOk result (λ reply. reply.status < 6) }
 {
-    let finish = run(alloc, plan, STEP_LIMIT)?;
-    let mut output = memory_text(alloc, plan.regions(), finish.bits.as_slice())?;
+    let finish = run(alloc, code, STEP_LIMIT)?;
+    let mut output = memory_text(alloc, code.layout(), &finish.memory)?;
     push_end(alloc, &mut output, finish.end)?;
     Ok(Reply {
         output,
@@ -71,55 +64,29 @@ fn run_reply(alloc: Global, plan: &Plan) -> Result<Reply, AllocError>
 }
 
 // The reply to a text that is refused.
-fn refusal(alloc: Global, diagnostic: &Diagnostic<'_>) -> Result<Reply, AllocError>
-    ensures reply { IfOk result (λ reply. reply_seen reply ≡ refusal_reply diagnostic.now) }
+fn refusal(alloc: Global, fault: &LoadFault) -> Result<Reply, AllocError>
+    ensures known { IfOk result (λ reply. fault.now ≢ OutOfMemory) }
+    ensures reply { IfOk result (λ reply. reply_seen reply ≡ reply_of step_limit zero_seed (Err fault.now)) }
     ensures status { IfOk result (λ reply. reply.status < 6) }
 {
+    if matches!(fault, LoadFault::OutOfMemory) {
+        return Err(AllocError);
+    }
     let mut output = Vec::new(alloc);
-    push_line(alloc, &mut output, "error: ", diagnostic)?;
+    push_line(alloc, &mut output, "error: ", &fault.diagnostic())?;
     Ok(Reply {
         output,
         status: REFUSED,
     })
 }
 
-fn not_built(alloc: Global, line: u32) -> Result<Reply, AllocError>
-    ensures reply { IfOk result (λ reply. reply_seen reply ≡ refusal_reply (not_built_report line)) }
-    ensures status { IfOk result (λ reply. reply.status < 6) }
-{
-    refusal(alloc, &of_line(57, "NotBuilt", line))
-}
-
-fn refused(alloc: Global, fault: &ReadFault) -> Result<Reply, AllocError>
-    ensures known { IfOk result (λ reply. fault.now ≢ OutOfMemory) }
-    ensures reply { IfOk result (λ reply. reply_seen reply ≡ refusal_reply (fault_report fault.now)) }
-    ensures status { IfOk result (λ reply. reply.status < 6) }
-{
-    if matches!(fault, ReadFault::OutOfMemory) {
-        return Err(AllocError);
-    }
-    refusal(alloc, &diagnostic_of(fault))
-}
-
-// The reply to a text that was read.
-fn planned(alloc: Global, tree: &Tree) -> Result<Reply, AllocError>
-    ensures reply { IfOk result (λ reply. IsReplyToTree step_limit tree.now (reply_seen reply)) }
-    ensures status { IfOk result (λ reply. reply.status < 6) }
-{
-    match plan_of(alloc, tree) {
-        Ok(plan) => run_reply(alloc, &plan),
-        Err(FirstFault::NotBuilt { line }) => not_built(alloc, line),
-        Err(FirstFault::OutOfMemory) => Err(AllocError),
-    }
-}
-
-/// The reply to a text: it isn't read, or its tree breaks the cut at a line, or its plan is run.
+/// The reply to a text: its program is run, or its refusal is told.
 pub(crate) fn answer(alloc: Global, text: &[u8]) -> Result<Reply, AllocError>
     ensures reply { IfOk result (λ reply. IsReplyTo step_limit text.now (reply_seen reply)) }
     ensures status { IfOk result (λ reply. reply.status < 6) }
 {
-    match parse(alloc, text) {
-        Ok(tree) => planned(alloc, &tree),
-        Err(fault) => refused(alloc, &fault),
+    match load(alloc, text) {
+        Ok(code) => run_reply(alloc, &code),
+        Err(fault) => refusal(alloc, &fault),
     }
 }

@@ -76,8 +76,8 @@ fn run<S: Source, K: Sink>(alloc: Global, source: &mut S, sink: &mut K) -> u8
 
 /// The program behind its name: the words after it, a source and a sink, and the status that it ends with.
 ///
-/// The one word `run` reads a Quil program from the source, runs it where its tree is in the first cut, and writes its
-/// memory. Everything else is a usage refusal, which reads nothing.
+/// The one word `run` reads a Quil program from the source, loads and runs it, and writes its memory at the end, or writes why
+/// it is refused. Everything else is a usage refusal, which reads nothing.
 pub fn local_main<S: Source, K: Sink>(
     alloc: Global,
     words: &[String],

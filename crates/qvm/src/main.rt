@@ -7,12 +7,8 @@
 mod answer;
 mod laws;
 mod local;
-mod plan;
-#[cfg(test)]
-mod plan_tests;
 #[cfg(test)]
 mod read_tests;
-mod refusal;
 mod run;
 #[cfg(test)]
 mod tests;

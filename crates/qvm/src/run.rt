@@ -1,17 +1,15 @@
-//! Whole runs of a plan.
+//! Whole runs of a program.
 
 ghost use Rattle.std.specs.Prelude.{◌≡◌, ◌+◌, ◌<◌, ◌^◌, if◌then◌else◌, length, IfOk};
-ghost use Rattle.qvm_step.specs.Program.{bits_of};
+ghost use Rattle.quil_code.specs.Step.{FitsProgram, Answers, step, needs_word};
 ghost use Rattle.qvm_step.specs.Words.{draw, zero_seed};
-ghost use Rattle.qvm_step.specs.Step.{FitsProgram, Answers, step, needs_word};
-ghost use Rattle.qvm_step.specs.Run.{AmplitudeLimit, finished, start};
-ghost use Rattle.qvm.specs.Ends.{NextWord, EndsAs, end_seen, line_of};
+ghost use Rattle.qvm_step.specs.Run.{end_at_wait, finished, start};
+ghost use Rattle.qvm.specs.Ends.{NextWord, EndsAs, end_seen};
 
+use quil_code::{Code, Fault, Quantum, Stepped};
+use quil_memory::Memory;
 use qvm_ring::Ray;
-use qvm_step::{
-    Bits, Fault, FirstState, Plan, Stepped, draw, first_step, needs_word,
-    word_matters_at_measure_alone,
-};
+use qvm_step::{draw, needs_word, step, word_matters_at_measure_alone};
 use std::alloc::{AllocError, Global};
 
 // The words of a run are those of the seed that is all zeros.
@@ -22,25 +20,28 @@ const ZERO_SEED: [u8; 32] = [0; 32];
 pub(crate) enum End {
     /// By HALT, or behind the last instruction.
     Halted,
+    /// At WAIT.
+    Waiting,
     /// At its limit of steps.
     StepLimit,
-    /// The reduced product of the gate at this line weighs more than 2^94.
-    AmplitudeLimit(u32),
+    /// By a fault of a step.
+    Fault(Fault),
 }
 
 /// A run that has ended.
 #[derive(Drop)]
 pub(crate) struct Finish {
-    pub bits: Bits,
+    pub memory: Memory,
     pub end: End,
 }
 
 // The word of the next step: a new one of the seed where it is a measurement.
-fn next_word(plan: &Plan, state: &FirstState, draws: &mut u64) -> u32
-    requires { draws.old < 2 ^ 63 }
-    ensures { NextWord plan.now state.now draws.old draws.new result }
+fn next_word(code: &Code, machine: &Quantum, draws: &mut u64) -> u32
+    requires fits { FitsProgram code.now machine.now }
+    requires room { draws.old < 2 ^ 63 }
+    ensures { NextWord code.now machine.now draws.old draws.new result }
 {
-    if !needs_word(plan, state) {
+    if !needs_word(code, machine) {
         return 0;
     }
     let word = draw(ZERO_SEED, *draws);
@@ -48,63 +49,67 @@ fn next_word(plan: &Plan, state: &FirstState, draws: &mut u64) -> u32
     word
 }
 
-// The state that a run begins in.
-fn first_state(alloc: Global, plan: &Plan) -> Result<FirstState, AllocError>
-    ensures start { IfOk result (λ state. state ≡ start plan.now) }
-    ensures fits { IfOk result (λ state. FitsProgram plan.now state) }
+// The machine that a run begins with.
+fn first_machine(alloc: Global, code: &Code) -> Result<Quantum, AllocError>
+    ensures start { IfOk result (λ machine. machine ≡ start code.now) }
+    ensures fits { IfOk result (λ machine. FitsProgram code.now machine) }
 {
-    let ray = Ray::zero(alloc, 16)?;
-    let bits = Bits::zeros(alloc, plan.bits())?;
-    Ok(FirstState { ray, bits, at: 0 })
+    let ray = Ray::zero(alloc, code.qubits())?;
+    let memory = Memory::zeros(alloc, code.layout())?;
+    Ok(Quantum { ray, memory, at: 0 })
 }
 
 // One step, with its word.
-fn advance(alloc: Global, plan: &Plan, state: &mut FirstState, draws: &mut u64) -> Stepped
-    requires fits { FitsProgram plan.now state.old }
+fn advance(alloc: Global, code: &Code, machine: &mut Quantum, draws: &mut u64) -> Stepped
+    requires fits { FitsProgram code.now machine.old }
     requires room { draws.old < 2 ^ 63 }
-    ensures answer { Answers result (step plan.now state.old (draw zero_seed draws.old)) state.old state.new }
-    ensures count { draws.new ≡ (if needs_word plan.now state.old then draws.old + 1 else draws.old) }
-    ensures fits { FitsProgram plan.now state.new }
+    ensures answer { Answers result (step code.now machine.old (draw zero_seed draws.old)) machine.old machine.new }
+    ensures count { draws.new ≡ (if needs_word code.now machine.old then draws.old + 1 else draws.old) }
+    ensures fits { FitsProgram code.now machine.new }
 {
-    let word = next_word(plan, state, draws);
+    let word = next_word(code, machine, draws);
     word_matters_at_measure_alone();
-    first_step(alloc, plan, state, word)
+    step(alloc, code, machine, word)
 }
 
-fn end_by(fault: Fault) -> End
-    ensures { end_seen result ≡ AmplitudeLimit (line_of fault) }
+// How a run ends at WAIT with so many steps left.
+fn end_at_wait(left: u32) -> End
+    ensures { end_seen result ≡ end_at_wait left }
 {
-    match fault {
-        Fault::AmplitudeLimit { line } => End::AmplitudeLimit(line),
+    if left == 0 {
+        End::StepLimit
+    } else {
+        End::Waiting
     }
 }
 
-fn ended(state: FirstState, end: End) -> Finish
-    ensures bits { result.bits ≡ state.bits }
+fn ended(machine: Quantum, end: End) -> Finish
+    ensures memory { result.memory ≡ machine.memory }
     ensures end { result.end ≡ end }
 {
-    let FirstState {
+    let Quantum {
         ray: _,
-        bits,
+        memory,
         at: _,
-    } = state;
-    Finish { bits, end }
+    } = machine;
+    Finish { memory, end }
 }
 
-/// The run of a plan, of at most so many steps, with the words of the zero seed.
-pub(crate) fn run(alloc: Global, plan: &Plan, limit: u32) -> Result<Finish, AllocError>
-    ensures run { IfOk result (λ finish. EndsAs finish (finished limit plan.now zero_seed (start plan.now) 0)) }
-    ensures bits { IfOk result (λ finish. length finish.bits ≡ bits_of plan.now.regions) }
+/// The run of a program, of at most so many steps, with the words of the zero seed.
+pub(crate) fn run(alloc: Global, code: &Code, limit: u32) -> Result<Finish, AllocError>
+    ensures run { IfOk result (λ finish. EndsAs finish (finished limit code.now zero_seed (start code.now) 0)) }
+    ensures bits { IfOk result (λ finish. length finish.memory ≡ code.now.layout.bits) }
 {
-    let mut state = first_state(alloc, plan)?;
+    let mut machine = first_machine(alloc, code)?;
     let mut draws = 0;
-    for _ in 0..limit {
-        match advance(alloc, plan, &mut state, &mut draws) {
+    for done in 0..limit {
+        match advance(alloc, code, &mut machine, &mut draws) {
             Stepped::Went => {}
-            Stepped::Halted => return Ok(ended(state, End::Halted)),
-            Stepped::Fault(fault) => return Ok(ended(state, end_by(fault))),
+            Stepped::Halted => return Ok(ended(machine, End::Halted)),
+            Stepped::AtWait => return Ok(ended(machine, end_at_wait(limit - done - 1))),
+            Stepped::Fault(fault) => return Ok(ended(machine, End::Fault(fault))),
             Stepped::OutOfMemory => return Err(AllocError),
         }
     }
-    Ok(ended(state, End::StepLimit))
+    Ok(ended(machine, End::StepLimit))
 }

@@ -33,109 +33,81 @@ fn source_of(
     Ok(MemSource::new(bytes, pieces, failures))
 }
 
-// Runs a text in pieces of that size, 0 for whole pieces, and compares what is written, and the status.
-pub(crate) fn check(
-    rt: &impl Abort,
-    alloc: Global,
-    text: &str,
-    piece: usize,
-    output: &str,
-    status: u8,
-) -> Result<(), Fail> {
+// What a text comes to, read in pieces of that size, 0 for whole pieces: the status, and what is written, as in a row.
+fn told(alloc: Global, text: &str, piece: usize) -> Result<String, Fail> {
     let words = words_of(alloc, &["run"])?;
     let mut source = source_of(alloc, text.as_bytes(), piece, None)?;
     let mut sink = MemSink::new(alloc);
-    let got = local_main(alloc, &words, &mut source, &mut sink);
-    assert!(rt; sink.taken() == output.as_bytes(), "the output of {text:?}");
-    assert!(rt; got == status, "the status of {text:?}");
-    Ok(())
+    let status = local_main(alloc, &words, &mut source, &mut sink);
+    let written = str::from_utf8(sink.taken()).unwrap_or("?");
+    if written.is_empty() {
+        return Ok(format!(in alloc; "{status}")?);
+    }
+    let line = written.replace(alloc, "\n", "⏎")?;
+    Ok(format!(in alloc; "{status} {line}")?)
 }
 
-// The same, whole and byte by byte.
-pub(crate) fn check_all(
-    rt: &impl Abort,
-    alloc: Global,
-    cases: &[(&str, &str, u8)],
-) -> Result<(), Fail> {
-    for (text, output, status) in cases {
-        check(rt, alloc, *text, 0, *output, *status)?;
-        check(rt, alloc, *text, 1, *output, *status)?;
+// The rows whose texts come to something else, read whole or byte by byte. In a row `⏎` stands for a line feed.
+pub(crate) fn misses(alloc: Global, table: &str) -> Result<String, Fail> {
+    let mut all = String::new(alloc);
+    for row in table.lines() {
+        let Some((form, want)) = row.split_once(" => ") else {
+            all.push_str(row)?;
+            continue;
+        };
+        let text = form.replace(alloc, "⏎", "\n")?;
+        for piece in [0, 1] {
+            let said = told(alloc, &text, piece)?;
+            if said.as_str() != want {
+                all.push_str(&format!(in alloc; "{form} => {said}\n")?)?;
+            }
+        }
     }
+    Ok(all)
+}
+
+// Words of the zero seed are at least 2^31 but for words 3 and 5 of the first six, and H gives 1 where a word is below.
+#[test]
+fn programs_end_so(rt: HostRuntime) -> Result<(), Fail> {
+    let table = "
+ => 0
+⏎⏎ => 0
+HALT => 0
+⏎⏎HALT⏎⏎HALT => 0
+X 0⏎H 9⏎X 10⏎H 15 => 0
+MEASURE 7 => 0
+PRAGMA a; X 0 => 0
+DECLARE ro BIT[1]⏎X 0⏎MEASURE 0 ro[0]⏎ => 0 ro: 1⏎
+DECLARE ro BIT⏎X 0⏎NOP; MEASURE 0 ro => 0 ro: 1⏎
+DECLARE ro BIT[10] => 0 ro: 0 0 0 0 0 0 0 0 0 0⏎
+DECLARE pis BIT⏎DECLARE si BIT => 0 pis: 0⏎si: 0⏎
+DECLARE aa BIT[3]⏎DECLARE bb BIT[12]⏎X 2⏎MEASURE 2 bb[10]⏎DECLARE cc BIT⏎MEASURE 1 cc[0]⏎MEASURE 2 aa[2] => 0 aa: 0 0 1⏎bb: 0 0 0 0 0 0 0 0 0 0 1 0⏎cc: 0⏎
+DECLARE ro BIT⏎DECLARE ab BIT[2]⏎X 0⏎HALT⏎CNOT 0 1⏎ => 0 ro: 0⏎ab: 0 0⏎
+DECLARE ro BIT[2]⏎PRAGMA INITIAL_REWIRING \"PARTIAL\"⏎H 0⏎CNOT 0 1⏎MEASURE 0 ro[0]⏎MEASURE 1 ro[1]⏎ => 0 ro: 0 0⏎
+DECLARE ro BIT[6]⏎H 0⏎MEASURE 0 ro[0]⏎H 1⏎MEASURE 1 ro[1]⏎H 2⏎MEASURE 2 ro[2]⏎H 3⏎MEASURE 3 ro[3]⏎H 4⏎MEASURE 4 ro[4]⏎H 5⏎MEASURE 5 ro[5]⏎ => 0 ro: 0 0 0 1 0 1⏎
+DECLARE ro BIT⏎MEASURE 1⏎X 2⏎MEASURE 1⏎MEASURE 1⏎H 0⏎MEASURE 0 ro[0]⏎ => 0 ro: 1⏎
+DECLARE ro BIT[4]⏎MEASURE 1⏎MEASURE 1⏎MEASURE 1⏎H 0⏎MEASURE 0 ro[0]⏎MEASURE 0 ro[1]⏎MEASURE 0 ro[2]⏎MEASURE 0 ro[3]⏎ => 0 ro: 1 1 1 1⏎
+DECLARE zz BIT[2]⏎DECLARE aa BIT⏎X 15⏎MEASURE 15⏎MEASURE 15 zz[1]⏎MEASURE 15 aa[0]⏎MEASURE 0 aa[0]⏎ => 0 zz: 0 1⏎aa: 0⏎
+DECLARE ro BIT[3]⏎X 37⏎CNOT 37 31⏎MEASURE 30 ro[0]⏎MEASURE 31 ro[1]⏎MEASURE 37 ro[2]⏎ => 0 ro: 0 1 1⏎
+DECLARE ro BIT⏎X 3⏎H 3⏎H 3⏎MEASURE 3 ro[0]⏎ => 0 ro: 1⏎
+DECLARE x INTEGER⏎DECLARE b BIT[3] SHARING x⏎MOVE x 5⏎ => 0 x: 5⏎b: 1 0 1⏎
+DECLARE x INTEGER⏎DECLARE a OCTET[8] SHARING x⏎MOVE x -2⏎ => 0 x: -2⏎a: 254 255 255 255 255 255 255 255⏎
+DECLARE x INTEGER[2]⏎MOVE x -9223372036854775808⏎MOVE x[1] 10⏎DIV x[1] -3⏎ => 0 x: -9223372036854775808 -3⏎
+DECLARE t REAL⏎ => 0 t: 0⏎
+DECLARE x INTEGER⏎DECLARE t REAL SHARING x⏎MOVE x -3⏎ => 0 x: -3⏎t: -3*pi/4⏎
+DECLARE x INTEGER⏎DECLARE t REAL SHARING x⏎MOVE x 4⏎ => 0 x: 4⏎t: pi⏎
+WAIT⏎ => 3 waiting⏎
+DECLARE ro BIT⏎X 0⏎MEASURE 0 ro⏎WAIT⏎NOT ro⏎ => 3 ro: 1⏎waiting⏎
+DECLARE x INTEGER⏎MOVE x 9223372036854775807⏎ADD x 1 => 4 x: 9223372036854775807⏎fault: 29 Overflow line=3⏎
+DECLARE a OCTET⏎DECLARE x INTEGER⏎MOVE x 256⏎CONVERT a x⏎ => 4 a: 0⏎x: 256⏎fault: 29 Overflow line=4⏎
+DECLARE x INTEGER[2]⏎DECLARE i0 INTEGER⏎DECLARE y INTEGER⏎MOVE i0 2⏎LOAD y x i0⏎ => 4 x: 0 0⏎i0: 2⏎y: 0⏎fault: 14 OutOfRange index=2 length=2 line=5 region=0⏎
+DECLARE x INTEGER[2]⏎⏎MOVE x 7; DIV x x[1]⏎ => 4 x: 7 0⏎fault: 30 ZeroDivide line=3⏎
+";
+    assert_eq!(rt; misses(rt.alloc(), table)?.as_str(), "");
     Ok(())
 }
 
 const BELL: &str = "DECLARE ro BIT[2]\nH 0\nCNOT 0 1\nMEASURE 0 ro[0]\nMEASURE 1 ro[1]\n";
-
-#[test]
-fn runs(rt: HostRuntime) -> Result<(), Fail> {
-    let cases = [
-        ("", "", 0),
-        ("\n\n", "", 0),
-        ("DECLARE ro BIT[1]\nX 0\nMEASURE 0 ro[0]\n", "ro: 1\n", 0),
-        ("DECLARE ro BIT\nX 0\nMEASURE 0 ro[0]", "ro: 1\n", 0),
-        ("HALT", "", 0),
-        ("\n\nHALT\n\nHALT", "", 0),
-        ("X 0\nH 9\nX 10\nH 15", "", 0),
-        ("CNOT 0 1\nCNOT 15 3\n", "", 0),
-        ("MEASURE 7", "", 0),
-        ("DECLARE ro BIT[1]", "ro: 0\n", 0),
-        ("DECLARE ro BIT[10]", "ro: 0 0 0 0 0 0 0 0 0 0\n", 0),
-        ("DECLARE abcdefghijklmnop BIT", "abcdefghijklmnop: 0\n", 0),
-        ("DECLARE pis BIT\nDECLARE si BIT", "pis: 0\nsi: 0\n", 0),
-        (
-            "DECLARE aa BIT[3]\nDECLARE bb BIT[12]\nX 2\nMEASURE 2 bb[10]\nDECLARE cc BIT\nMEASURE 1 cc[0]\nMEASURE 2 aa[2]",
-            "aa: 0 0 1\nbb: 0 0 0 0 0 0 0 0 0 0 1 0\ncc: 0\n",
-            0,
-        ),
-        (
-            "DECLARE ro BIT\nDECLARE ab BIT[2]\nX 0\nHALT\nCNOT 0 1\n",
-            "ro: 0\nab: 0 0\n",
-            0,
-        ),
-        (BELL, "ro: 0 0\n", 0),
-        (
-            "DECLARE ro BIT[6]\nH 0\nMEASURE 0 ro[0]\nH 1\nMEASURE 1 ro[1]\nH 2\nMEASURE 2 ro[2]\nH 3\nMEASURE 3 ro[3]\nH 4\nMEASURE 4 ro[4]\nH 5\nMEASURE 5 ro[5]\n",
-            "ro: 0 0 0 1 0 1\n",
-            0,
-        ),
-        // A bare MEASURE uses a word, and X uses none: the last measurement uses word 3, which is below 2^31.
-        (
-            "DECLARE ro BIT\nMEASURE 1\nX 2\nMEASURE 1\nMEASURE 1\nH 0\nMEASURE 0 ro[0]\n",
-            "ro: 1\n",
-            0,
-        ),
-        // A measured qubit is measured again alike.
-        (
-            "DECLARE ro BIT[4]\nMEASURE 1\nMEASURE 1\nMEASURE 1\nH 0\nMEASURE 0 ro[0]\nMEASURE 0 ro[1]\nMEASURE 0 ro[2]\nMEASURE 0 ro[3]\n",
-            "ro: 1 1 1 1\n",
-            0,
-        ),
-        // A measurement without a name, and regions in order of declaration.
-        (
-            "DECLARE zz BIT[2]\nDECLARE aa BIT\nX 15\nMEASURE 15\nMEASURE 15 zz[1]\nMEASURE 15 aa[0]\nMEASURE 0 aa[0]\n",
-            "zz: 0 1\naa: 0\n",
-            0,
-        ),
-        // CNOT flips its target alone, and only where its control is 1.
-        (
-            "DECLARE ro BIT[3]\nX 1\nCNOT 1 2\nCNOT 0 1\nMEASURE 0 ro[0]\nMEASURE 1 ro[1]\nMEASURE 2 ro[2]\n",
-            "ro: 0 1 1\n",
-            0,
-        ),
-        ("DECLARE ro BIT\nH 3\nH 3\nMEASURE 3 ro[0]\n", "ro: 0\n", 0),
-        (
-            "DECLARE ro BIT\nH 3\nX 3\nH 3\nMEASURE 3 ro[0]\n",
-            "ro: 0\n",
-            0,
-        ),
-        (
-            "DECLARE ro BIT\nX 3\nH 3\nH 3\nMEASURE 3 ro[0]\n",
-            "ro: 1\n",
-            0,
-        ),
-    ];
-    check_all(&rt, rt.alloc(), &cases)
-}
 
 #[test]
 fn other_words_are_usage_and_read_nothing(rt: HostRuntime) -> Result<(), Fail> {
@@ -204,7 +176,7 @@ fn a_sink_that_fills_up_has_a_front(rt: HostRuntime) -> Result<(), Fail> {
     Ok(())
 }
 
-pub(crate) fn repeated(alloc: Global, line: &str, count: usize) -> Result<String, AllocError> {
+fn repeated(alloc: Global, line: &str, count: usize) -> Result<String, AllocError> {
     let mut text = String::new(alloc);
     for _ in 0..count {
         text.push_str(line)?;
@@ -212,96 +184,63 @@ pub(crate) fn repeated(alloc: Global, line: &str, count: usize) -> Result<String
     Ok(text)
 }
 
+// So many copies of a piece come to this.
+fn check_copies(
+    rt: &impl Abort,
+    alloc: Global,
+    piece: &str,
+    count: usize,
+    want: &str,
+) -> Result<(), Fail> {
+    let text = repeated(alloc, piece, count)?;
+    assert_eq!(rt;
+        told(alloc, &text, 0)?.as_str(),
+        want,
+        "of {count} times {piece}"
+    );
+    Ok(())
+}
+
 #[test]
 fn limits_of_a_text(rt: HostRuntime) -> Result<(), Fail> {
     let alloc = rt.alloc();
-    let longest = repeated(alloc, "\n", 1_048_576)?;
-    let longer = repeated(alloc, "\n", 1_048_577)?;
-    let too_long = "error: 7 TextTooLong length=1048577\n";
-    let cases = [(longest.as_str(), "", 0), (longer.as_str(), too_long, 1)];
-    check_all(&rt, alloc, &cases)?;
-    let much_longer = repeated(alloc, "\n", 1_048_600)?;
-    check(&rt, alloc, much_longer.as_str(), 0, too_long, 1)
+    let too_long = "1 error: 7 TextTooLong length=1048577⏎";
+    check_copies(&rt, alloc, "\n", 1_048_576, "0")?;
+    check_copies(&rt, alloc, "\n", 1_048_577, too_long)?;
+    check_copies(&rt, alloc, "\n", 1_048_600, too_long)
 }
 
 #[test]
 fn limits_of_a_program(rt: HostRuntime) -> Result<(), Fail> {
     let alloc = rt.alloc();
-    let most = repeated(alloc, "X 0\n", 65_536)?;
-    let more = repeated(alloc, "X 0\n", 65_537)?;
+    let too_many = "1 error: 23 TooManyInstructions count=65537⏎";
+    check_copies(&rt, alloc, "X 0\n", 65_536, "0")?;
+    check_copies(&rt, alloc, "X 0\n", 65_537, too_many)?;
     let zeros = repeated(alloc, " 0", 65_535)?;
-    let memory = format!(in alloc; "aa:{}\nbb: 0\n", zeros.as_str())?;
-    let cases = [
-        (most.as_str(), "", 0),
-        (more.as_str(), "error: 57 NotBuilt line=65537\n", 1),
-        ("DECLARE aa BIT[65535]\nDECLARE bb BIT", memory.as_str(), 0),
-    ];
-    check_all(&rt, alloc, &cases)
+    let memory = format!(in alloc; "0 aa:{}⏎bb: 0⏎", zeros.as_str())?;
+    check_copies(
+        &rt,
+        alloc,
+        "DECLARE aa BIT[65535]\nDECLARE bb BIT",
+        1,
+        &memory,
+    )
 }
 
-// The name of four letters that stands at a place in the dictionary.
-fn name_at(alloc: Global, place: u32) -> Result<String, AllocError> {
-    let mut name = String::new(alloc);
-    for rest in [place / 17_576, place / 676, place / 26, place] {
-        name.push(char::from(b'a' + (rest % 26) as u8))?;
-    }
-    Ok(name)
-}
-
-// As many declarations of different names of four letters as a text has room for.
-#[test]
-fn declarations_of_61_680_names(rt: HostRuntime) -> Result<(), Fail> {
-    let alloc = rt.alloc();
-    let mut text = String::new(alloc);
-    let mut memory = String::new(alloc);
-    for place in 0..61_680 {
-        let name = name_at(alloc, place)?;
-        text.push_str(format!(in alloc; "DECLARE {name} BIT\n")?.as_str())?;
-        memory.push_str(format!(in alloc; "{name}: 0\n")?.as_str())?;
-    }
-    check_all(&rt, alloc, &[(text.as_str(), memory.as_str(), 0)])
-}
-
-// MEASURE of each qubit into its bit.
-fn measured(alloc: Global, text: &mut String) -> Result<(), AllocError> {
-    for q in 0..16 {
-        text.push_str(format!(in alloc; "MEASURE {q} ro[{q}]\n")?.as_str())?;
-    }
-    Ok(())
-}
-
+// X on three of sixteen qubits, and H twice on each.
 #[test]
 fn h_twice_on_each_qubit(rt: HostRuntime) -> Result<(), Fail> {
     let alloc = rt.alloc();
     let mut text = String::from_str(alloc, "DECLARE ro BIT[16]\nX 1\nX 4\nX 15\n")?;
     for _ in 0..2 {
         for q in 0..16 {
-            text.push_str(format!(in alloc; "H {q}\n")?.as_str())?;
+            text.push_str(&format!(in alloc; "H {q}\n")?)?;
         }
     }
-    measured(alloc, &mut text)?;
-    let output = "ro: 0 1 0 0 1 0 0 0 0 0 0 0 0 0 0 1\n";
-    check(&rt, alloc, text.as_str(), 0, output, 0)
-}
-
-// A GHZ state of so many qubits, measured by word 3, which is below 2^31: each of its bits is 1.
-#[test]
-fn ghz_of_each_size(rt: HostRuntime) -> Result<(), Fail> {
-    let alloc = rt.alloc();
-    let begin = "DECLARE ro BIT[16]\nMEASURE 0\nMEASURE 0\nMEASURE 0\nH 0\n";
-    for size in 2..17 {
-        let mut text = String::from_str(alloc, begin)?;
-        let mut output = String::from_str(alloc, "ro: 1")?;
-        for q in 1..size {
-            text.push_str(format!(in alloc; "CNOT 0 {q}\n")?.as_str())?;
-            output.push_str(" 1")?;
-        }
-        for _ in size..16 {
-            output.push_str(" 0")?;
-        }
-        output.push_str("\n")?;
-        measured(alloc, &mut text)?;
-        check(&rt, alloc, text.as_str(), 0, output.as_str(), 0)?;
+    for q in 0..16 {
+        text.push_str(&format!(in alloc; "MEASURE {q} ro[{q}]\n")?)?;
     }
+    let output = "0 ro: 0 1 0 0 1 0 0 0 0 0 0 0 0 0 0 1⏎";
+    assert_eq!(rt; told(alloc, &text, 0)?.as_str(), output);
     Ok(())
 }

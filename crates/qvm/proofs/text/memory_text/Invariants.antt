@@ -1,6 +1,8 @@
 use Rattle.std.proofs.Common.{◌≡◌, ◌++◌, drop}
-use Rattle.qvm.specs.RunText.{memory_text}
+use Rattle.std.specs.List.{flat_map}
+use Rattle.qvm.specs.RunText.{region_text, memory_text}
 use Rattle.qvm.proofs.text.memory_text.Given as goal
 
-abbrev pub invariant-loop-region : goal.invariant-loop-region
-invariant-loop-region l = l.text.items ++ memory_text l.bits (drop l.region-index l.regions) ≡ memory_text l.bits l.regions
+-- with the regions that are left it is the text of all
+abbrev pub invariant-loop-number : goal.invariant-loop-number
+invariant-loop-number l = l.text.items ++ flat_map (region_text l.memory) (drop l.number l.layout.regions) ≡ memory_text l.memory l.layout

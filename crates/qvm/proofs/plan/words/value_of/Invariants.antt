@@ -1,7 +1,0 @@
-use Rattle.std.proofs.Common.{◌≡◌, take}
-use Rattle.std.specs.Str.Parse.{AllDigits, digits_value}
-use Rattle.qvm.proofs.plan.words.value_of.Given as goal
-
--- the digits so far, and their value
-abbrev pub invariant-loop-digit : goal.invariant-loop-digit
-invariant-loop-digit l = AllDigits 10 (take l.digit-index l.word) × (l.value ≡ digits_value 10 (take l.digit-index l.word))
