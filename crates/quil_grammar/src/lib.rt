@@ -29,6 +29,3 @@ pub use sort::Sort;
 pub use stop::Stop;
 pub use token::Token;
 pub use value::value_of;
-
-#[cfg(test)]
-mod tests;

@@ -19,6 +19,8 @@ mod expression_tests;
 #[cfg(test)]
 mod long_tests;
 #[cfg(test)]
+mod names_tests;
+#[cfg(test)]
 mod print_tests;
 #[cfg(test)]
 mod program_tests;

@@ -29,7 +29,3 @@ pub same_tree : (t u : Expression) → postfix t ≡ postfix u → t ≡ u
 same_tree t u e =
     let same : t ∷ [] ≡ u ∷ [] = sym (trees_of_postfix t) ∙ ap (λ ss. trees ss []) e ∙ trees_of_postfix u in
     cc
-
--- a step that puts a value on top is a tree's
-pub leaf_is_postfix : (p : Place) (a : Atom) (ss : List Step) → ss ≡ record { place = p; action = Push a } ∷ [] → IsPostfix ss
-leaf_is_postfix p a ss e = record { tree = Leaf p a; steps_of_tree = e }

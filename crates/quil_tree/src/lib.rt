@@ -4,7 +4,7 @@
 //! in boxes. Contracts see the steps as those of a tree (`specs/Expression.antt`); `one_tree` is the law that steps are
 //! those of one tree alone.
 //!
-//! `print` gives the text of a tree, and `print_item` that of one item (`specs/Printed.antt`).
+//! `print` gives the text of a tree (`specs/Printed.antt`).
 #![tactic(auto)]
 
 mod expr;
@@ -25,11 +25,8 @@ pub use laws::one_tree;
 pub use list::List;
 pub use names::NameSet;
 pub use place::Place;
-pub use printer::{print, print_item};
+pub use printer::print;
 pub use statement::{
     Formula, Gate, Line, Modification, Modifier, Name, Operand, Qubit, Reference, Statement,
 };
 pub use text::Text;
-
-#[cfg(test)]
-mod tests;

@@ -36,15 +36,6 @@ pub fn print(alloc: Global, tree: &Tree) -> Result<Text, AllocError>
     Ok(Text::from_bytes(bytes))
 }
 
-/// The lines of one item, each with its line feed. A statement of the top level has no parameters.
-pub fn print_item(alloc: Global, item: &Item) -> Result<Text, AllocError>
-    ensures { IfOk result (λ text. text ≡ item_text item.now) }
-{
-    let mut bytes = Vec::new(alloc);
-    push_item(&mut bytes, alloc, item)?;
-    Ok(Text::from_bytes(bytes))
-}
-
 fn push_items(text: &mut Vec<u8>, alloc: Global, mut items: &[Item]) -> Result<(), AllocError>
     ensures { OnOk result (text.new.items ≡ text.old.items ++ flat_map item_text items.entry.now) }
 {
@@ -55,6 +46,7 @@ fn push_items(text: &mut Vec<u8>, alloc: Global, mut items: &[Item]) -> Result<(
     Ok(())
 }
 
+// The lines of one item, each with its line feed. A statement of the top level has no parameters.
 fn push_item(text: &mut Vec<u8>, alloc: Global, item: &Item) -> Result<(), AllocError>
     ensures { OnOk result (text.new.items ≡ text.old.items ++ item_text item.now) }
 {
