@@ -1,11 +1,9 @@
 -- Steps, taken on a stack of trees, give the tree back, so it is the only one.
 use Rattle.std.proofs.Common.{◌≡◌, List, [], ◌∷◌, ◌++◌, refl, sym, ◌∙◌, ap, append_assoc, append-nil}
-use Rattle.quil_tree.specs.Expression.{Expression, IsPostfix, postfix, acted, trees}
-use Rattle.quil_tree.specs.declared.expr.Atom.{Atom}
+use Rattle.quil_tree.specs.Expression.{Expression, postfix, acted, trees}
 use Rattle.quil_tree.specs.Expression.Expression.{Leaf, Signed, Applied, Called}
-use Rattle.quil_tree.specs.declared.place.Place.{Place}
 use Rattle.quil_tree.specs.declared.expr.Step.{Step}
-use Rattle.quil_tree.specs.declared.expr.Action.TheVariants.{Push, Sign, Apply, Call}
+use Rattle.quil_tree.specs.declared.expr.Action.TheVariants.{Sign, Apply, Call}
 
 trees_of_postfix_then : (t : Expression) (ss : List Step) (es : List Expression) → trees (postfix t ++ ss) es ≡ trees ss (t ∷ es)
 unfolding trees acted
