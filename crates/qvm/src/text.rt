@@ -2,7 +2,6 @@
 
 ghost use Rattle.std.specs.Prelude.{◌≡◌, ◌+◌, ◌<◌, ◌≤◌, ◌++◌, length, IfOk, OnOk, codes};
 ghost use Rattle.std.specs.Fmt.{signed_decimal};
-ghost use Rattle.qvm_diagnostic.specs.Report.{text_of};
 ghost use Rattle.quil_memory.specs.Cells.{value_at};
 ghost use Rattle.quil_memory.specs.Layout.{width, first_bit, most_bits};
 ghost use Rattle.qvm.specs.RunText.{cell_text, cell_values, values_text, region_text, memory_text, report_line};
