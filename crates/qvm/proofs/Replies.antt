@@ -1,15 +1,20 @@
 -- Each text has one reply.
 use Rattle.std.proofs.Common.{◌≡◌, ◌≢◌, ◌⊎◌, refl, sym, ◌∙◌, ap, ℕ, inl, inr, List}
-use Rattle.std.specs.Prelude.{Result, Err}
+use Rattle.std.specs.Prelude.{Result, Ok, Err, IfOk}
+use Rattle.std.specs.declared.alloc.AllocError.{AllocError}
 use Rattle.quil_tree.specs.declared.item.Item.{Item}
 use Rattle.quil_grammar.specs.declared.fault.ReadFault.{ReadFault}
 use Rattle.quil_grammar.specs.declared.fault.ReadFault.TheVariants.{OutOfMemory}
 use Rattle.quil_parse.specs.Program.{IsTreeOf, IsFaultOf}
 use Rattle.quil_code.specs.declared.load_fault.LoadFault.{LoadFault}
+use Rattle.quil_code.specs.declared.load_fault.LoadFault.TheVariants as load
 use Rattle.quil_code.specs.Program.{Program}
 use Rattle.quil_link.specs.Load.{IsLoaded, load_tree, of_reading}
 use Rattle.qvm_step.specs.Words.{zero_seed}
 use Rattle.qvm.specs.RunText.{Reply, IsReplyTo, reply_of}
+use Rattle.qvm.specs.declared.answer.Reply.{Reply as CodeReply}
+use Rattle.qvm.specs.Ends.{reply_seen}
+use Rattle.qvm.specs.Calls.{step_limit}
 
 -- what a text is loaded as has a reply
 of_loaded : (limit : ℕ) (text : List ℕ) (r : Result Program LoadFault) → IsLoaded text r → (reply : Reply) × IsReplyTo limit text reply
@@ -26,3 +31,9 @@ some_reply_by read limit text = by (read text)
 -- a text is loaded in one way, and then has one reply
 pub one_reply_by : ((text : List ℕ) (r s : Result Program LoadFault) → IsLoaded text r → IsLoaded text s → r ≡ s) → (limit : ℕ) (text : List ℕ) (r s : Reply) → IsReplyTo limit text r → IsReplyTo limit text s → r ≡ s
 one_reply_by one limit text r s h k = h.is ∙ ap (reply_of limit zero_seed) (one text h.loaded k.loaded h.is_loaded k.is_loaded) ∙ sym k.is
+
+-- a text that is refused, not for want of memory, has that refusal as its reply
+pub refused : (text : List ℕ) (f : LoadFault) (r : Result CodeReply AllocError) → (f ≢ load.OutOfMemory → IsLoaded text (Err f)) → IfOk r (λ reply. f ≢ load.OutOfMemory) →
+    IfOk r (λ reply. reply_seen reply ≡ reply_of step_limit zero_seed (Err f)) → IfOk r (λ reply. IsReplyTo step_limit text (reply_seen reply))
+refused text f (Ok reply) loaded known e = record { loaded = Err f; is_loaded = loaded known; is = e }
+refused text f (Err a) loaded known e = e
