@@ -1,124 +1,24 @@
--- Steps of the loops that add norms over lists of entries.
-use Rattle.std.proofs.Common.{◌≡◌, ◌≢◌, sym, ◌∙◌, ap, subst, ℕ, ◌+◌, ◌^◌, ◌<◌, ◌≤◌, ◌==◌, Bool, true, false, cond, List, [], ◌∷◌, length, drop, get_or, arith}
-use Rattle.std.specs.Prelude.{ℤ, pos, ◌+ℤ◌, ◌-ℤ◌, ◌*ℤ◌, nat_abs, ◌≤ℤ◌}
+-- Steps of the loops that add norms over a list of amplitudes.
+use Rattle.std.proofs.Common.{◌≡◌, refl, sym, ◌∙◌, ap, subst, ℕ, ◌+◌, ◌*◌, ◌^◌, ◌<◌, ◌≤◌, ◌==◌, Bool, true, false, cond, ◌≢◌, [], ◌∷◌, arith, add-one}
+use Rattle.std.specs.Prelude.{ℤ, pos, negsuc, ◌+ℤ◌, ◌-ℤ◌, ◌*ℤ◌, nat_abs, ◌≤ℤ◌, if◌then◌else◌}
 use Rattle.std.proofs.lemmas.Int.{ints}
 use Rattle.std.proofs.lemmas.Bool.{eq-eqb}
 use Rattle.std.proofs.lemmas.Bool.Decides.{nat_tests}
 use Rattle.std.proofs.Math.IntN.{+ℤ_idr}
-use Rattle.std.proofs.lemmas.List.{drop_all}
-use borrow.Author.Differences.{same_in}
 use mir.Val.{to_z, of_z}
 use mir.Syntax.{w128}
-use Rattle.qvm_ring.specs.declared.entries.Entry.{Entry}
-use Rattle.qvm_ring.specs.Ring.{Element, norm_whole, norm_root}
-use Rattle.qvm_ring.specs.Ray.{Ray, weight, weight_limit}
+use borrow.Author.Differences.{same_in}
+use Rattle.qvm_ring.specs.Ring.{Element, nought, norm_whole, norm_root}
+use Rattle.qvm_ring.specs.Ray.{Ray, ray_of, weight, weight_limit}
 use Rattle.qvm_ring.specs.Gate.{bit_of}
 use Rattle.qvm_ring.specs.Measure.{Norm, norm_of, sum_of_roots, kept}
-use Rattle.qvm_ring.specs.declared.norm.Norm.{Norm as SignedNorm}
+use Rattle.qvm_ring.specs.declared.signed_norm.Norm.{Norm as SignedNorm}
 use Rattle.qvm_ring.specs.NormViews.{norm_seen, IsNorm}
-use Rattle.qvm_ring.specs.Views.{amplitudes_of, element_of}
-use Rattle.qvm_ring.proofs.Loops.{drop_at}
-use Rattle.qvm_ring.proofs.Norms.{abs_sum, norm_root_le}
-use Rattle.qvm_ring.proofs.Measures.{kept_cons}
+use Rattle.qvm_ring.specs.Views.{IsBelow}
+use Rattle.qvm_ring.proofs.Reductions.{IsBelow-norm_whole}
+use Rattle.qvm_ring.proofs.Norms.{abs_sum}
+use Rattle.qvm_ring.proofs.Vectors.{weight_step, roots_step, weight_room, kept_at, kept_ray_of}
 
--- the sums so far, and those of the entries to come
-pub record Sums (all rest : Ray) (whole : ℕ) (roots : ℤ) : Type 0 where
-  pub whole_is : whole + weight rest ≡ weight all
-  pub roots_are : roots +ℤ sum_of_roots rest ≡ sum_of_roots all
-  pub root_le_whole : nat_abs roots ≤ whole
-
-regroup : (x y z : ℤ) → x +ℤ y +ℤ z ≡ x +ℤ (y +ℤ z)
-regroup x y z = same_in _ _ (omega (arith, ints))
-
-Sums-cons : (all rest : Ray) (e : ℕ × Element) (whole whole' : ℕ) (roots roots' : ℤ) → whole' ≡ whole + norm_whole e.1 → roots' ≡ roots +ℤ norm_root e.1 →
-    Sums all (e ∷ rest) whole roots → Sums all rest whole' roots'
-Sums-cons all rest e whole whole' roots roots' p q m = record {
-  whole_is = omega (arith, m.whole_is);
-  roots_are = ap (λ (z : ℤ). z +ℤ sum_of_roots rest) q ∙ regroup roots (norm_root e.1) (sum_of_roots rest) ∙ m.roots_are;
-  root_le_whole = subst (λ (z : ℤ). nat_abs z ≤ whole') (sym q) (omega (arith, abs_sum roots (norm_root e.1), norm_root_le e.1, m.root_le_whole));
-}
-
-dropped : (es : List Entry) (i : ℕ) (d : Entry) → i < length es →
-    amplitudes_of (drop i es) ≡ ((get_or es i d).basis, element_of (get_or es i d).amplitude) ∷ amplitudes_of (drop (i + 1) es)
-dropped es i d h = ap amplitudes_of (drop_at es i d h)
-
-pub Sums-step : (all : Ray) (es : List Entry) (i : ℕ) (d : Entry) (whole whole' : ℕ) (roots roots' : ℤ) → i < length es →
-    whole' ≡ whole + norm_whole (element_of (get_or es i d).amplitude) → roots' ≡ roots +ℤ norm_root (element_of (get_or es i d).amplitude) →
-    Sums all (amplitudes_of (drop i es)) whole roots → Sums all (amplitudes_of (drop (i + 1) es)) whole' roots'
-Sums-step all es i d whole whole' roots roots' h p q m =
-    Sums-cons all _ ((get_or es i d).basis, element_of (get_or es i d).amplitude) whole whole' roots roots' p q
-    (subst (λ (r : Ray). Sums all r whole roots) (dropped es i d h) m)
-
-kept_dropped : (q bit : ℕ) (es : List Entry) (i : ℕ) (d : Entry) (t : Bool) → i < length es → (bit_of (get_or es i d).basis q == bit) ≡ t →
-    kept (amplitudes_of (drop i es)) q bit
-    ≡ (cond t (((get_or es i d).basis, element_of (get_or es i d).amplitude) ∷ kept (amplitudes_of (drop (i + 1) es)) q bit) (kept (amplitudes_of (drop (i + 1) es)) q bit))
-kept_dropped q bit es i d t h p =
-    ap (λ (r : Ray). kept r q bit) (dropped es i d h) ∙ kept_cons q bit ((get_or es i d).basis, element_of (get_or es i d).amplitude) (amplitudes_of (drop (i + 1) es)) t p
-
-differ : (x y : ℕ) → x ≢ y → (x == y) ≡ false
-differ x y h = grind (arith, nat_tests)
-
--- at an entry that counts
-pub Sums-kept : (all : Ray) (q bit b : ℕ) (es : List Entry) (i : ℕ) (d : Entry) (whole whole' : ℕ) (roots roots' : ℤ) → i < length es →
-    b ≡ bit_of (get_or es i d).basis q → b ≡ bit →
-    whole' ≡ whole + norm_whole (element_of (get_or es i d).amplitude) → roots' ≡ roots +ℤ norm_root (element_of (get_or es i d).amplitude) →
-    Sums all (kept (amplitudes_of (drop i es)) q bit) whole roots → Sums all (kept (amplitudes_of (drop (i + 1) es)) q bit) whole' roots'
-Sums-kept all q bit b es i d whole whole' roots roots' h e f p s m =
-    Sums-cons all _ ((get_or es i d).basis, element_of (get_or es i d).amplitude) whole whole' roots roots' p s
-    (subst (λ (r : Ray). Sums all r whole roots) (kept_dropped q bit es i d true h (eq-eqb (bit_of (get_or es i d).basis q) bit (sym e ∙ f))) m)
-
--- at one that doesn't
-pub Sums-left : (all : Ray) (q bit b : ℕ) (es : List Entry) (i : ℕ) (d : Entry) (whole whole' : ℕ) (roots roots' : ℤ) → i < length es →
-    b ≡ bit_of (get_or es i d).basis q → b ≢ bit → whole' ≡ whole → roots' ≡ roots →
-    Sums all (kept (amplitudes_of (drop i es)) q bit) whole roots → Sums all (kept (amplitudes_of (drop (i + 1) es)) q bit) whole' roots'
-Sums-left all q bit b es i d whole whole' roots roots' h e f p s m =
-    subst (λ (w : ℕ). Sums all (kept (amplitudes_of (drop (i + 1) es)) q bit) w roots') (sym p)
-    (subst (λ (z : ℤ). Sums all (kept (amplitudes_of (drop (i + 1) es)) q bit) whole z) (sym s)
-    (subst (λ (r : Ray). Sums all r whole roots) (kept_dropped q bit es i d false h (differ (bit_of (get_or es i d).basis q) bit (λ g. f (e ∙ g)))) m))
-
-pub weight_kept : (q bit : ℕ) (ray : Ray) → weight (kept ray q bit) ≤ weight ray
-weight_kept q bit [] = omega arith
-weight_kept q bit (e ∷ es) = elim (bit_of e.0 q == bit) as (λ t. weight (cond t (e ∷ kept es q bit) (kept es q bit)) ≤ weight (e ∷ es)) [
-  | true ↦ omega (arith, weight_kept q bit es)
-  | false ↦ omega (arith, weight_kept q bit es)
-]
-
--- the sum doesn't pass the weight of all
-pub Sums-room : (q bit b r : ℕ) (es : List Entry) (i : ℕ) (d : Entry) (whole : ℕ) (roots : ℤ) → i < length es →
-    b ≡ bit_of (get_or es i d).basis q → b ≡ bit → r ≡ norm_whole (element_of (get_or es i d).amplitude) → weight (amplitudes_of es) ≤ weight_limit →
-    Sums (kept (amplitudes_of es) q bit) (kept (amplitudes_of (drop i es)) q bit) whole roots → whole + r ≤ weight_limit
-Sums-room q bit b r es i d whole roots h e f p w m =
-    let k = ap weight (kept_dropped q bit es i d true h (eq-eqb (bit_of (get_or es i d).basis q) bit (sym e ∙ f))) in
-    omega (arith, m.whole_is, weight_kept q bit (amplitudes_of es), k)
-
-pub Sums-light : (q bit : ℕ) (es : List Entry) (rest : Ray) (whole : ℕ) (roots : ℤ) → weight (amplitudes_of es) ≤ weight_limit →
-    Sums (kept (amplitudes_of es) q bit) rest whole roots → whole ≤ weight_limit
-Sums-light q bit es rest whole roots w m = omega (arith, m.whole_is, weight_kept q bit (amplitudes_of es))
-
--- ---- at the end
-
-pub kept_none : (q bit : ℕ) (es : List Entry) (i : ℕ) → length es ≤ i → kept (amplitudes_of (drop i es)) q bit ≡ []
-kept_none q bit es i h = ap (λ (l : List Entry). kept (amplitudes_of l) q bit) (drop_all i es h)
-
-same_norm : (m n : Norm) → m.u ≡ n.u → m.v ≡ n.v → m ≡ n
-same_norm m n p q i = record { u = p i; v = q i }
-
-pub Sums-seen : (all rest : Ray) (whole : ℕ) (n : SignedNorm) → n.u ≡ pos whole → rest ≡ [] → Sums all rest whole n.v → norm_seen n ≡ norm_of all
-Sums-seen all rest whole n p e m =
-    same_norm (norm_seen n) (norm_of all)
-    (ap nat_abs p ∙ (let f : weight rest ≡ 0 = ap weight e in omega (arith, m.whole_is)))
-    (sym (+ℤ_idr n.v) ∙ ap (λ (r : Ray). n.v +ℤ sum_of_roots r) (sym e) ∙ m.roots_are)
-
-pub Sums-bounds : (all rest : Ray) (whole : ℕ) (n : SignedNorm) → n.u ≡ pos whole → whole ≤ weight_limit → Sums all rest whole n.v → IsNorm n
-Sums-bounds all rest whole n p h m =
-    let e : nat_abs n.u ≡ whole = ap nat_abs p in
-    record {
-      not_negative = subst (λ (z : ℤ). pos 0 ≤ℤ z) (sym p) (omega (arith, ints));
-      light = omega (arith, e);
-      root = omega (arith, e, m.root_le_whole);
-    }
-
--- the v of an amplitude's norm, added up
 root_sum : (x y z w : ℤ) → x +ℤ y +ℤ (z -ℤ w) ≡ x +ℤ y +ℤ z -ℤ w
 root_sum x y z w = same_in _ _ (omega (arith, ints))
 
@@ -128,17 +28,107 @@ root_parts z p q f r s g t hp hq hf hr hs hg ht =
     let e : t ≡ p +ℤ q +ℤ (r -ℤ s) = cc in
     e ∙ root_sum p q r s ∙ (cc)
 
--- ---- the code's sums of signed numbers
+pub same_norm : (m n : Norm) → m.u ≡ n.u → m.v ≡ n.v → m ≡ n
+same_norm m n p q i = record { u = p i; v = q i }
 
-pub room_of_all : (r : ℕ) (es : List Entry) (i : ℕ) (d : Entry) (whole : ℕ) (roots : ℤ) → i < length es →
-    r ≡ norm_whole (element_of (get_or es i d).amplitude) → weight (amplitudes_of es) ≤ weight_limit →
-    Sums (amplitudes_of es) (amplitudes_of (drop i es)) whole roots → whole + r ≤ weight_limit
-room_of_all r es i d whole roots h p w m = omega (arith, m.whole_is, ap weight (dropped es i d h))
+-- an amplitude that leaves room is small
+pub room_below : (u : ℕ) (z : Element) → u + norm_whole z ≤ weight_limit → IsBelow (2 ^ 62) z
+room_below u z h = IsBelow-norm_whole z (omega (arith, h))
 
-added_up : (x y : ℤ) (whole r : ℕ) → nat_abs x ≤ whole → nat_abs y ≤ r → whole + r ≤ 2 ^ 94 →
-    to_z w128 (of_z w128 (x +ℤ to_z w128 (of_z w128 y))) ≡ x +ℤ y
-added_up x y whole r h k l = same_in _ _ (omega (arith, ints))
+-- ---- the sums of `add`
 
-pub added : (x y n : ℤ) (whole r : ℕ) → nat_abs x ≤ whole → nat_abs y ≤ r → whole + r ≤ weight_limit → y ≡ n →
-    to_z w128 (of_z w128 (x +ℤ to_z w128 (of_z w128 y))) ≡ x +ℤ n
-added x y n whole r h k l e = added_up x y whole r h k l ∙ ap (λ (z : ℤ). x +ℤ z) e
+pub added_u : (u : ℤ) (w : ℕ) → pos 0 ≤ℤ u → nat_abs u + w ≤ 2 ^ 94 → to_z w128 (of_z w128 (to_z w128 (of_z w128 u) +ℤ to_z w128 w)) ≡ u +ℤ pos w
+added_u u w h k = same_in _ _ (omega (arith, ints))
+
+pub added_v : (x y : ℤ) (u r : ℕ) → nat_abs x ≤ u → nat_abs y ≤ r → u + r ≤ 2 ^ 94 → to_z w128 (of_z w128 (to_z w128 (of_z w128 x) +ℤ to_z w128 (of_z w128 y))) ≡ x +ℤ y
+added_v x y u r h k l = same_in _ _ (omega (arith, ints))
+
+sum_size : (u : ℤ) (w : ℕ) → pos 0 ≤ℤ u → nat_abs (u +ℤ pos w) ≡ nat_abs u + w
+sum_size u w h = omega (arith, ints)
+
+sum_not_negative : (u : ℤ) (w : ℕ) → pos 0 ≤ℤ u → pos 0 ≤ℤ u +ℤ pos w
+sum_not_negative u w h = omega (arith, ints)
+
+-- the norm with an amplitude added
+pub record IsAdded (n n' : SignedNorm) (w : ℕ) (r : ℤ) : Type 0 where
+  pub u : n'.u ≡ n.u +ℤ pos w
+  pub v : n'.v ≡ n.v +ℤ r
+
+pub IsAdded-made : (n n' : SignedNorm) (w : ℕ) (r : ℤ) (z : Element) → IsNorm n → w ≡ norm_whole z → nat_abs r ≤ norm_whole z → (norm_seen n).u + norm_whole z ≤ weight_limit →
+    n'.u ≡ to_z w128 (of_z w128 (to_z w128 (of_z w128 n.u) +ℤ to_z w128 w)) → n'.v ≡ to_z w128 (of_z w128 (to_z w128 (of_z w128 n.v) +ℤ to_z w128 (of_z w128 r))) → IsAdded n n' w r
+IsAdded-made n n' w r z b p k h e f = record {
+  u = e ∙ added_u n.u w b.not_negative (omega (arith, p, h));
+  v = f ∙ added_v n.v r (nat_abs n.u) (norm_whole z) b.root k (omega (arith, h));
+}
+
+pub IsAdded-value : (n n' : SignedNorm) (w : ℕ) (r : ℤ) (z : Element) → IsNorm n → w ≡ norm_whole z → r ≡ norm_root z → IsAdded n n' w r →
+    norm_seen n' ≡ record { u = (norm_seen n).u + norm_whole z; v = n.v +ℤ norm_root z }
+IsAdded-value n n' w r z b p q m = same_norm _ _
+    (ap nat_abs m.u ∙ sum_size n.u w b.not_negative ∙ ap (λ (k : ℕ). nat_abs n.u + k) p)
+    (m.v ∙ ap (λ (x : ℤ). n.v +ℤ x) q)
+
+pub IsAdded-bounds : (n n' : SignedNorm) (w : ℕ) (r : ℤ) (z : Element) → IsNorm n → w ≡ norm_whole z → nat_abs r ≤ norm_whole z → (norm_seen n).u + norm_whole z ≤ weight_limit →
+    IsAdded n n' w r → IsNorm n'
+IsAdded-bounds n n' w r z b p k h m =
+    let s : nat_abs n'.u ≡ nat_abs n.u + w = ap nat_abs m.u ∙ sum_size n.u w b.not_negative in
+    record {
+      not_negative = subst (λ (x : ℤ). pos 0 ≤ℤ x) (sym m.u) (sum_not_negative n.u w b.not_negative);
+      light = omega (arith, s, p, h);
+      root = omega (arith, s, p, k, b.root, ap nat_abs m.v, abs_sum n.v r);
+    }
+
+-- ---- the norm of the basis states below i
+
+pub record Adds (f : ℕ → Element) (i : ℕ) (n : SignedNorm) : Type 0 where
+  pub seen : norm_seen n ≡ norm_of (ray_of i f)
+  pub bounds : IsNorm n
+
+pub Adds-none : (f : ℕ → Element) (n : SignedNorm) → n.u ≡ pos 0 → n.v ≡ pos 0 → Adds f 0 n
+Adds-none f n p q = record {
+  seen = same_norm _ _ (ap nat_abs p) q;
+  bounds = record { not_negative = subst (λ (z : ℤ). pos 0 ≤ℤ z) (sym p) (omega (arith, ints)); light = omega (arith, ap nat_abs p); root = omega (arith, ap nat_abs q) };
+}
+
+pub Adds-room : (m : ℕ) (f : ℕ → Element) (i : ℕ) (z : Element) (n : SignedNorm) → i < m → z ≡ f i → weight (ray_of m f) ≤ weight_limit → Adds f i n →
+    (norm_seen n).u + norm_whole z ≤ weight_limit
+Adds-room m f i z n h e w a = omega (arith, weight_room m f i h, ap norm_whole e, ap (λ (k : Norm). k.u) a.seen, w)
+
+pub Adds-next : (f : ℕ → Element) (i : ℕ) (z : Element) (n n' : SignedNorm) → z ≡ f i → norm_seen n' ≡ record { u = (norm_seen n).u + norm_whole z; v = n.v +ℤ norm_root z } → IsNorm n' →
+    Adds f i n → Adds f (i + 1) n'
+Adds-next f i z n n' e p b a = record {
+  seen = p ∙ same_norm _ _
+      (omega (arith, weight_step i f, ap norm_whole e, ap (λ (k : Norm). k.u) a.seen, ap (λ (k : ℕ). weight (ray_of k f)) (add-one i)))
+      (ap (λ (x : ℤ). x +ℤ norm_root z) (ap (λ (k : Norm). k.v) a.seen) ∙ ap (λ (y : Element). sum_of_roots (ray_of i f) +ℤ norm_root y) e
+      ∙ sym (roots_step i f) ∙ sym (ap (λ (k : ℕ). sum_of_roots (ray_of k f)) (add-one i)));
+  bounds = b;
+}
+
+pub Adds-skip : (f : ℕ → Element) (i : ℕ) (n n' : SignedNorm) → f i ≡ nought → n' ≡ n → Adds f i n → Adds f (i + 1) n'
+Adds-skip f i n n' e p a = subst (Adds f (i + 1)) (sym p) (record {
+  seen = a.seen ∙ same_norm _ _
+      (omega (arith, weight_step i f, ap norm_whole e, ap (λ (k : ℕ). weight (ray_of k f)) (add-one i)))
+      (sym (+ℤ_idr (sum_of_roots (ray_of i f))) ∙ ap (λ (y : Element). sum_of_roots (ray_of i f) +ℤ norm_root y) (sym e)
+      ∙ sym (roots_step i f) ∙ sym (ap (λ (k : ℕ). sum_of_roots (ray_of k f)) (add-one i)));
+  bounds = a.bounds;
+})
+
+-- ---- the part in which a qubit has a value
+
+pub weight_kept : (q bit : ℕ) (ray : Ray) → weight (kept ray q bit) ≤ weight ray
+weight_kept q bit [] = omega arith
+weight_kept q bit (e ∷ es) = elim (bit_of e.0 q == bit) as (λ t. weight (cond t (e ∷ kept es q bit) (kept es q bit)) ≤ weight (e ∷ es)) [
+  | true ↦ omega (arith, weight_kept q bit es)
+  | false ↦ omega (arith, weight_kept q bit es)
+]
+
+pub kept_light : (n q bit : ℕ) (f : ℕ → Element) → weight (ray_of n f) ≤ weight_limit → weight (ray_of n (kept_at q bit f)) ≤ weight_limit
+kept_light n q bit f w = omega (arith, w, weight_kept q bit (ray_of n f), ap weight (kept_ray_of n q bit f))
+
+differ : (x y : ℕ) → x ≢ y → (x == y) ≡ false
+differ x y h = grind (arith, nat_tests)
+
+pub kept_at_here : (q bit r i : ℕ) (f : ℕ → Element) → r ≡ bit_of i q → r ≡ bit → kept_at q bit f i ≡ f i
+kept_at_here q bit r i f p k = ap (λ (b : Bool). if b then f i else nought) (eq-eqb (bit_of i q) bit (sym p ∙ k))
+
+pub kept_at_other : (q bit r i : ℕ) (f : ℕ → Element) → r ≡ bit_of i q → r ≢ bit → kept_at q bit f i ≡ nought
+kept_at_other q bit r i f p k = ap (λ (b : Bool). if b then f i else nought) (differ (bit_of i q) bit (λ e. k (p ∙ e)))

@@ -3,10 +3,9 @@ use Rattle.std.proofs.Common.{◌≡◌, ◌≢◌, refl, sym, ◌∙◌, ap, su
 use Rattle.std.specs.Prelude.{nat_abs, ℤ, nat_lt, All}
 use Rattle.std.proofs.lemmas.Bool.{ltb-true, ltb-false}
 use Rattle.std.proofs.Math.Nat.{mul-le-mul}
-use Rattle.qvm_ring.specs.declared.entries.Entry.{Entry}
 use Rattle.qvm_ring.specs.Ring.{Element, nought, square, norm_whole, is_zero, is_divisible, quotient, times, root_two}
 use Rattle.qvm_ring.specs.Ray.{Ray, weight, all_divisible, all_divided, divided, lone_is_unit, reduced, IsFiniteMap}
-use Rattle.qvm_ring.specs.Views.{amplitudes_of, element_of, IsLight, IsBelow}
+use Rattle.qvm_ring.specs.Views.{IsBelow}
 use Rattle.qvm_ring.proofs.RingLemmas.{root_two_times_quotient, and_left, and_right}
 use Rattle.qvm_ring.proofs.RayLemmas.{weight_all_divided}
 use Rattle.qvm_ring.proofs.Elements.{nought_if_zero}
@@ -48,7 +47,7 @@ weight_positive (e ∷ es) low high m h = elim (nat_lt 0 (norm_whole e.1)) as (�
 
 -- ---- division keeps a map
 
-quotient_not_zero : (z : Element) → is_divisible z ≡ true → is_zero z ≡ false → is_zero (quotient z) ≡ false
+pub quotient_not_zero : (z : Element) → is_divisible z ≡ true → is_zero z ≡ false → is_zero (quotient z) ≡ false
 quotient_not_zero z h k = elim (is_zero (quotient z)) as (λ b. is_zero (quotient z) ≡ b → b ≡ false) [
   | true ↦ λ e. let f : times root_two nought ≡ z = ap (times root_two) (sym (nought_if_zero (quotient z) e)) ∙ root_two_times_quotient z h in
       absurd (true_false (is_zero z) (sym (ap is_zero f)) k)
@@ -64,7 +63,7 @@ IsFiniteMap-all_divided (e ∷ es) low high h m = (
   IsFiniteMap-all_divided es (suc e.0) high (and_right (is_divisible e.1) (all_divisible es) h) m.3,
 )
 
-all_divided_some : (ray : Ray) → ray ≢ [] → all_divided ray ≢ []
+pub all_divided_some : (ray : Ray) → ray ≢ [] → all_divided ray ≢ []
 all_divided_some [] h k = h refl
 all_divided_some (e ∷ es) h k = cc
 
@@ -149,36 +148,27 @@ IsBelow-norm_whole z h = record {
   d = below_by_square (nat_abs z.d) (omega arith);
 }
 
-light_at : (es : List Entry) (low high : ℕ) → high ≤ 2 ^ 16 → IsFiniteMap low high (amplitudes_of es) → weight (amplitudes_of es) < 2 ^ 124 →
-    (k : ℕ) (d : Entry) → k < length es → IsLight (get_or es k d)
-light_at [] low high h m w k d l = absurd (omega arith)
-light_at (e ∷ es) low high h m w zero d l = (omega arith, IsBelow-norm_whole (element_of e.amplitude) (omega arith))
-light_at (e ∷ es) low high h m w (suc k) d l = light_at es (suc e.basis) high h m.3 (omega arith) k d (omega arith)
+-- ---- a reduced map is no heavier
 
--- a map of at most 2^16 states and little weight has small coefficients
-pub All-IsLight : (es : List Entry) (high : ℕ) → high ≤ 2 ^ 16 → IsFiniteMap 0 high (amplitudes_of es) → weight (amplitudes_of es) < 2 ^ 124 → All IsLight es
-All-IsLight es high h m w = light_at es 0 high h m w
+weight_divided_between : (n : ℕ) (ray : Ray) → 0 < weight ray → (0 < weight (divided n ray)) × (weight (divided n ray) ≤ weight ray)
+weight_divided_between zero ray h = (h, omega arith)
+weight_divided_between (suc n) ray h =
+    elim (all_divisible ray) as (λ t. all_divisible ray ≡ t → (0 < weight (elim t as (λ _. Ray) [ true ↦ divided n (all_divided ray) | false ↦ ray ])) × (weight (elim t as (λ _. Ray) [ true ↦ divided n (all_divided ray) | false ↦ ray ]) ≤ weight ray)) [
+      | true ↦ λ e. let w : 2 * weight (all_divided ray) ≡ weight ray = weight_all_divided ray e in
+          let r = weight_divided_between n (all_divided ray) (omega arith) in (r.0, omega (arith, r.1, w))
+      | false ↦ λ e. (h, omega arith)
+    ] refl
 
--- what a loop of divisions keeps
-pub record Reduces (old now : Ray) : Type 0 where
-  pub map : IsFiniteMap 0 (2 ^ 16) now
-  pub bound : weight now < 2 ^ 124
-  pub positive : 0 < weight now
-  pub same : fully_divided now ≡ fully_divided old
+weight_lone : (ray : Ray) → 0 < weight ray → weight (lone_is_unit ray) ≤ weight ray
+weight_lone [] h = omega arith
+weight_lone (e ∷ []) h = omega arith
+weight_lone (e ∷ f ∷ es) h = omega arith
 
-pub Reduces-step : (old now now' : Ray) → now' ≡ all_divided now → all_divisible now ≡ true → Reduces old now → Reduces old now'
-Reduces-step old now now' e h m =
-    let w : 2 * weight (all_divided now) ≡ weight now = weight_all_divided now h in
-    subst (Reduces old) (sym e) (record {
-      map = IsFiniteMap-all_divided now 0 (2 ^ 16) h m.map;
-      bound = omega (arith, m.bound);
-      positive = omega (arith, m.positive);
-      same = fully_divided_step now m.positive h ∙ m.same;
-    })
-
-pub lighter : (now now' : Ray) → now' ≡ all_divided now → all_divisible now ≡ true → 0 < weight now → weight now' < weight now
-lighter now now' e h p = let w : 2 * weight (all_divided now) ≡ weight now = weight_all_divided now h in omega (arith, ap weight e)
-
-pub Reduces-end : (old now : Ray) → all_divisible now ≡ false → Reduces old now → lone_is_unit now ≡ reduced old
+pub weight_reduced_le : (ray : Ray) → 0 < weight ray → weight (reduced ray) ≤ weight ray
 unfolding reduced
-Reduces-end old now h m = ap lone_is_unit (sym (fully_divided_end now h) ∙ m.same)
+weight_reduced_le ray h = let r = weight_divided_between (weight ray) ray h in omega (arith, weight_lone (divided (weight ray) ray) r.0, r.1)
+
+-- what is left once nothing more is divisible
+pub reduced_end : (old now : Ray) → all_divisible now ≡ false → fully_divided now ≡ fully_divided old → lone_is_unit now ≡ reduced old
+unfolding reduced
+reduced_end old now h m = ap lone_is_unit (sym (fully_divided_end now h) ∙ m)

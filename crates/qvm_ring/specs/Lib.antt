@@ -3,6 +3,6 @@ pub mod Ray
 pub mod Gate
 pub mod Measure
 pub mod Examples
-pub mod Parts
 pub mod Views
+pub mod Vector
 pub mod NormViews

@@ -1,13 +1,17 @@
 -- What contracts see of the program's amplitudes and of lists of them.
-use Rattle.std.specs.Prelude.{ℕ, zero, suc, ◌<◌, ◌^◌, List, [], ◌∷◌, nat_abs}
+use Rattle.std.specs.Prelude.{ℕ, zero, suc, ◌<◌, List, [], ◌∷◌, length, map, nat_abs}
 use Rattle.qvm_ring.specs.declared.amp.Amp.{Amp}
-use Rattle.qvm_ring.specs.declared.entries.Entry.{Entry}
+use Rattle.qvm_ring.specs.declared.wide.Wide.{Wide}
 use Rattle.qvm_ring.specs.Ring.{Element, nought}
-use Rattle.qvm_ring.specs.Ray.{Ray, IsFiniteMap, weight}
+use Rattle.qvm_ring.specs.Ray.{Ray, ray_of}
 
 -- the ring element that an amplitude means
 abbrev pub element_of : Amp → Element
 element_of z = record { a = z.a; b = z.b; c = z.c; d = z.d }
+
+-- that of a number with coefficients of 128 bits
+abbrev pub wide_element : Wide → Element
+wide_element z = record { a = z.a; b = z.b; c = z.c; d = z.d }
 
 -- every coefficient is below the bound in absolute value
 pub record IsBelow (bound : ℕ) (z : Element) : Type 0 where
@@ -16,22 +20,18 @@ pub record IsBelow (bound : ℕ) (z : Element) : Type 0 where
   pub c : nat_abs z.c < bound
   pub d : nat_abs z.d < bound
 
--- the map of a list of entries
-abbrev pub amplitudes_of : List Entry → Ray
-amplitudes_of [] = []
-amplitudes_of (e ∷ es) = (e.basis, element_of e.amplitude) ∷ amplitudes_of es
+abbrev pub elements_of : List Amp → List Element
+elements_of zs = map element_of zs
 
--- a basis state of 16 qubits, with coefficients that sums of two don't overflow
-abbrev pub IsLight : Entry → Type 0
-IsLight e = (e.basis < 2 ^ 16) × IsBelow (2 ^ 62) (element_of e.amplitude)
+abbrev pub wide_elements_of : List Wide → List Element
+wide_elements_of zs = map wide_element zs
 
--- a map on at most 16 qubits that weighs less than the bound
-pub record IsBounded (bound : ℕ) (es : List Entry) : Type 0 where
-  pub map : IsFiniteMap 0 (2 ^ 16) (amplitudes_of es)
-  pub weight : weight (amplitudes_of es) < bound
+-- the element at a place of a list, and 0 behind its end
+abbrev pub at : List Element → ℕ → Element
+at [] x = nought
+at (z ∷ zs) zero = z
+at (z ∷ zs) (suc x) = at zs x
 
--- the element at a place of a list of amplitudes, and 0 behind its end
-abbrev pub element_at : List Amp → ℕ → Element
-element_at [] x = nought
-element_at (z ∷ zs) zero = element_of z
-element_at (z ∷ zs) (suc x) = element_at zs x
+-- the map of a list: element x is the amplitude of basis state x
+abbrev pub map_of : List Element → Ray
+map_of zs = ray_of (length zs) (at zs)

@@ -4,14 +4,17 @@
 #![tactic(auto)]
 
 mod amp;
-mod entries;
 mod examples;
 mod fault;
 mod laws;
 mod measure_laws;
-mod norm;
-mod products;
+mod number;
 mod ray;
+mod reduce;
+mod settle;
+mod signed_norm;
+mod sums;
+mod wide;
 
 pub use amp::Amp;
 pub use examples::{gates_by_hand, measurements_by_hand, rays_by_hand};
@@ -21,5 +24,8 @@ pub use laws::{
     sign_of_norms,
 };
 pub use measure_laws::{norms_are_positive, outcomes_keep_some};
-pub use norm::Norm;
 pub use ray::Ray;
+pub use reduce::halve;
+pub use signed_norm::Norm;
+pub use sums::norm;
+pub use wide::Wide;

@@ -1,6 +1,6 @@
 use Rattle.std.proofs.Common.{subst, ℕ, ◌<◌, ◌≤◌, arith}
 use Rattle.std.proofs.lemmas.Nat.{one_shl}
-use Rattle.qvm_ring.proofs.Listed.{first_power}
+use Rattle.qvm_ring.proofs.Powers.{first_power}
 use Rattle.qvm_ring.proofs.ray.amplitudes.qubits_of.Goals as goal
 
 pub returns-clause-exact : goal.returns-clause-exact

@@ -1,0 +1,15 @@
+use Rattle.std.proofs.Common.{refl}
+use Rattle.qvm_ring.specs.declared.signed_norm.Norm.{Norm as SignedNorm}
+use Rattle.qvm_ring.specs.Views.{element_of}
+use Rattle.qvm_ring.proofs.NormLoops.{IsAdded, IsAdded-made, IsAdded-value, IsAdded-bounds}
+use Rattle.qvm_ring.proofs.signed_norm.Norm.add.Goals as goal
+
+pub returns-clause-value : goal.returns-clause-value
+returns-clause-value c =
+    IsAdded-value c.args.self.now _ c.weight.result c.root.result (element_of c.args.amplitude) c.requires.so_far c.weight.ensures c.root.ensures.value
+    (IsAdded-made c.args.self.now _ c.weight.result c.root.result (element_of c.args.amplitude) c.requires.so_far c.weight.ensures c.root.ensures.bound c.requires.room refl refl)
+
+pub returns-clause-bounds : goal.returns-clause-bounds
+returns-clause-bounds c =
+    IsAdded-bounds c.args.self.now _ c.weight.result c.root.result (element_of c.args.amplitude) c.requires.so_far c.weight.ensures c.root.ensures.bound c.requires.room
+    (IsAdded-made c.args.self.now _ c.weight.result c.root.result (element_of c.args.amplitude) c.requires.so_far c.weight.ensures c.root.ensures.bound c.requires.room refl refl)
