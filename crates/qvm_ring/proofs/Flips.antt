@@ -224,9 +224,9 @@ Exchanges-swap q old xs ys i j n s e p l k m = record {
         | inl f ↦ ap (at (elements_of ys)) f ∙ at_moved xs ys i j (omega arith) k (s.0 nothing) ∙ m.each j high ∙ ap (exchanged q (at old) i) p
             ∙ sym (exchanged_low q (at old) i e) ∙ ap (exchanged q (at old) (i + 1)) (sym f)
         | inr f ↦ elim (same_or_other x j) [
-          | inl g ↦ ap (at (elements_of ys)) g ∙ at_moved xs ys j i (omega arith) l (s.1.0 nothing) ∙ m.each i low
+          | inl g ↦ ap (at (elements_of ys)) g ∙ at_moved xs ys j i (omega arith) l (s.1 nothing) ∙ m.each i low
               ∙ sym (exchanged_high q (at old) i e) ∙ ap (exchanged q (at old) (i + 1)) (sym (g ∙ p))
-          | inr g ↦ at_moved xs ys x x (omega arith) here (s.1.1.0 x nothing f g) ∙ m.each x h
+          | inr g ↦ at_moved xs ys x x (omega arith) here (s.2 x nothing f g) ∙ m.each x h
               ∙ sym (exchanged_other q (at old) i x e f (λ r. g (r ∙ sym p)))
         ]
       ];

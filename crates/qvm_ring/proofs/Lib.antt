@@ -15,3 +15,4 @@ pub mod NormLoops
 pub mod Powers
 pub mod Flips
 pub mod States
+pub mod Settling

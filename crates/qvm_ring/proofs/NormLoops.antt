@@ -1,5 +1,5 @@
 -- Steps of the loops that add norms over a list of amplitudes.
-use Rattle.std.proofs.Common.{◌≡◌, refl, sym, ◌∙◌, ap, subst, ℕ, ◌+◌, ◌*◌, ◌^◌, ◌<◌, ◌≤◌, ◌==◌, Bool, true, false, cond, ◌≢◌, [], ◌∷◌, arith, add-one}
+use Rattle.std.proofs.Common.{◌≡◌, refl, sym, ◌∙◌, ap, subst, ℕ, suc, ◌+◌, ◌*◌, ◌^◌, ◌<◌, ◌≤◌, ◌==◌, Bool, true, false, cond, ◌≢◌, [], ◌∷◌, arith, add-one}
 use Rattle.std.specs.Prelude.{ℤ, pos, negsuc, ◌+ℤ◌, ◌-ℤ◌, ◌*ℤ◌, nat_abs, ◌≤ℤ◌, if◌then◌else◌}
 use Rattle.std.proofs.lemmas.Int.{ints}
 use Rattle.std.proofs.lemmas.Bool.{eq-eqb}
@@ -46,7 +46,7 @@ added_v x y u r h k l = same_in _ _ (omega (arith, ints))
 sum_size : (u : ℤ) (w : ℕ) → pos 0 ≤ℤ u → nat_abs (u +ℤ pos w) ≡ nat_abs u + w
 sum_size u w h = omega (arith, ints)
 
-sum_not_negative : (u : ℤ) (w : ℕ) → pos 0 ≤ℤ u → pos 0 ≤ℤ u +ℤ pos w
+sum_not_negative : (u : ℤ) (w : ℕ) → pos 0 ≤ℤ u → pos 0 ≤ℤ (u +ℤ pos w)
 sum_not_negative u w h = omega (arith, ints)
 
 -- the norm with an amplitude added
@@ -132,3 +132,13 @@ kept_at_here q bit r i f p k = ap (λ (b : Bool). if b then f i else nought) (eq
 
 pub kept_at_other : (q bit r i : ℕ) (f : ℕ → Element) → r ≡ bit_of i q → r ≢ bit → kept_at q bit f i ≡ nought
 kept_at_other q bit r i f p k = ap (λ (b : Bool). if b then f i else nought) (differ (bit_of i q) bit (λ e. k (p ∙ e)))
+
+zero_of_size : (z : ℤ) → nat_abs z ≡ 0 → z ≡ pos 0
+zero_of_size (pos n) h = ap pos h
+zero_of_size (negsuc n) h = absurd (let e : suc n ≡ 0 = h in omega arith)
+
+-- a part whose norm isn't 0 isn't empty
+pub kept_by_norm : (n : SignedNorm) (ray : Ray) → norm_seen n ≡ norm_of ray → n.u ≢ pos 0 → ray ≢ []
+kept_by_norm n ray e f g =
+    let u : nat_abs n.u ≡ 0 = ap (λ (m : Norm). m.u) e ∙ ap weight g in
+    f (zero_of_size n.u u)

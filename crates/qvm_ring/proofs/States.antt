@@ -101,3 +101,12 @@ pub x_light : (n q : ℕ) (zs ys : List Element) → q < n → IsVector n zs →
 x_light n q zs ys h v p =
     let m = ap (λ (k : ℕ). ray_of k (at zs)) v.size in
     omega (arith, ap weight p, ap (λ (r : Ray). weight (ray_of (2 ^ n) (product_at x_gate (q ∷ []) r))) m, weight_x_product n q (at zs) h, ap weight m, v.state.light)
+
+-- ---- the same, from what a method has in hand: the fields n and zs of a ray that is seen as s, and the slice l of its amplitudes
+
+pub few_of : (n : ℕ) (zs l : List Amp) → l ≡ zs → IsVector n (elements_of zs) → length l ≤ 2 ^ 16
+few_of n zs l e v = omega (arith, ap length e, length-map zs element_of, few_elements n (elements_of zs) v)
+
+pub room_for : (n x : ℕ) (s : State) (zs l : List Amp) → record { qubits = n; amplitudes = map_of (elements_of zs) } ≡ s → l ≡ zs → IsVector n (elements_of zs) → x < 2 ^ s.qubits → x < length l
+room_for n x s zs l p e v h =
+    omega (arith, ap length e, length-map zs element_of, v.size, ap (λ (t : State). 2 ^ t.qubits) p)

@@ -1,9 +1,9 @@
 //! Laws above the definitions of the ring, of rays and of gates.
 
-ghost use Rattle.std.specs.Prelude.{◌≡◌, ◌+◌, ◌*◌, ◌<◌, ℕ, true, false, ℤ, pos, neg_ℤ, ◌+ℤ◌, ◌*ℤ◌, [], ◌∷◌};
+ghost use Rattle.std.specs.Prelude.{◌≡◌, ◌≢◌, ◌+◌, ◌*◌, ◌^◌, ◌<◌, ◌≤◌, ℕ, true, false, ℤ, pos, neg_ℤ, ◌+ℤ◌, ◌*ℤ◌, [], ◌∷◌};
 ghost use Rattle.qvm_ring.specs.Ring.{Element, unit, times, conjugate, root_two, norm_whole, norm_root, is_positive, is_divisible, quotient};
-ghost use Rattle.qvm_ring.specs.Ray.{Ray, weight, all_divisible, all_divided, reduced};
-ghost use Rattle.qvm_ring.specs.Gate.{IsUnitary, x_gate, h_gate, cnot_gate};
+ghost use Rattle.qvm_ring.specs.Ray.{Ray, IsFiniteMap, weight, all_divisible, all_divided, reduced};
+ghost use Rattle.qvm_ring.specs.Gate.{IsUnitary, applied, x_gate, h_gate, cnot_gate};
 
 /// The norm u + v√2 of an amplitude is the amplitude times its complex conjugate, where √2 is ω - ω³.
 #[tactic(auto, using(crate::proofs::RingLemmas::times_conjugate))]
@@ -24,6 +24,12 @@ pub fn quotient_times_root_two()
 pub fn reduced_rays()
     ensures not_divisible { (ray : Ray) → 0 < weight ray → all_divisible (reduced ray) ≡ false }
     ensures lone { (ray : Ray) (x : ℕ) (z : Element) → reduced ray ≡ (x, z) ∷ [] → z ≡ unit }
+{}
+
+/// X makes no ray heavier, so its product never passes the limit.
+#[tactic(auto, using(crate::proofs::Flips::x_no_heavier))]
+pub fn flipped_rays()
+    ensures { (n qubit : ℕ) (ray : Ray) → qubit < n → IsFiniteMap 0 (2 ^ n) ray → ray ≢ [] → weight (applied n x_gate (qubit ∷ []) ray) ≤ weight ray }
 {}
 
 /// The sign test of u + v√2: a factor √2 doesn't change it, and the sum of two positive numbers is positive.

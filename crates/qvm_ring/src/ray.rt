@@ -57,7 +57,7 @@ impl Ray {
         ensures { IfOk result (λ ray. ray ≡ record { qubits = qubits; amplitudes = zero_ray }) }
     {
         let mut amplitudes = Vec::from_elem(alloc, Amp::ZERO, 1 << qubits)?;
-        amplitudes[0] = Amp::ONE;
+        keep_zero(&mut amplitudes);
         Ok(Ray { qubits, amplitudes })
     }
 

@@ -32,15 +32,22 @@ fn weight(z: Wide) -> u128
 }
 
 // Whether every coefficient is below 2^48. One that isn't weighs too much alone.
+#[tactic(auto, using(crate::proofs::Settling::heavy_a, crate::proofs::Settling::heavy_b, crate::proofs::Settling::heavy_c, crate::proofs::Settling::heavy_d))]
 fn is_small(z: Wide) -> bool
     ensures small { result ≡ true → IsBelow (2 ^ 48) (wide_element z) }
     ensures heavy { result ≡ false → weight_limit < norm_whole (wide_element z) }
 {
     let bound = 1 << 48;
-    z.a.unsigned_abs() < bound
-        && z.b.unsigned_abs() < bound
-        && z.c.unsigned_abs() < bound
-        && z.d.unsigned_abs() < bound
+    if z.a.unsigned_abs() >= bound {
+        return false;
+    }
+    if z.b.unsigned_abs() >= bound {
+        return false;
+    }
+    if z.c.unsigned_abs() >= bound {
+        return false;
+    }
+    z.d.unsigned_abs() < bound
 }
 
 // Whether all weigh at most 2^94.

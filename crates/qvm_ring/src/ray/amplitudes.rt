@@ -1,6 +1,8 @@
 //! Rays from amplitudes, and amplitudes of rays.
 
-ghost use Rattle.std.specs.Prelude.{◌≡◌, ℕ, ◌^◌, ◌≤◌};
+ghost use Rattle.std.specs.Prelude.{◌≡◌, ℕ, ◌^◌, ◌<◌, ◌≤◌, length};
+ghost use Rattle.qvm_ring.specs.Ray.{amplitude_at};
+ghost use Rattle.qvm_ring.specs.Views.{element_of, elements_of, map_of};
 
 use crate::amp::Amp;
 use crate::ray::Ray;
@@ -18,6 +20,14 @@ fn qubits_of(count: usize) -> u32
         qubits += 1;
     }
     qubits
+}
+
+// The amplitude of a basis state.
+fn amp_of(list: &[Amp], basis: u32) -> Amp
+    requires { basis < length list.now }
+    ensures { element_of result ≡ amplitude_at (map_of (elements_of list.now)) basis }
+{
+    list[basis as usize]
 }
 
 impl Ray {
@@ -46,6 +56,6 @@ impl Ray {
         requires { basis < 2 ^ self.now.qubits }
         ensures { element_of result ≡ amplitude_at self.now.amplitudes basis }
     {
-        self.amplitudes[basis as usize]
+        amp_of(&self.amplitudes, basis)
     }
 }

@@ -2,8 +2,9 @@
 
 ghost use Rattle.std.specs.Prelude.{◌≡◌, ◌^◌, ◌<◌, ◌≤◌, [], ◌∷◌, length};
 ghost use Rattle.qvm_ring.specs.Ray.{ray_of};
-ghost use Rattle.qvm_ring.specs.Gate.{x_gate, product_at};
+ghost use Rattle.qvm_ring.specs.Gate.{x_gate, product_at, applied};
 ghost use Rattle.qvm_ring.specs.Views.{elements_of, map_of};
+ghost use Rattle.qvm_ring.specs.Vector.{IsVector};
 
 use crate::amp::Amp;
 use crate::ray::Ray;
@@ -25,6 +26,17 @@ fn exchange(list: &mut [Amp], qubits: u32, qubit: u32)
     }
 }
 
+// X in reduced form.
+fn flip(list: &mut [Amp], qubits: u32, qubit: u32)
+    requires vector { IsVector qubits (elements_of list.old) }
+    requires one { qubit < qubits }
+    ensures value { map_of (elements_of list.new) ≡ applied qubits x_gate (qubit ∷ []) (map_of (elements_of list.old)) }
+    ensures vector { IsVector qubits (elements_of list.new) }
+{
+    exchange(list, qubits, qubit);
+    reduce(list);
+}
+
 impl Ray {
     ghost use Rattle.std.specs.Prelude.{◌≡◌, ◌<◌, [], ◌∷◌};
     ghost use Rattle.qvm_ring.specs.Ray.{State};
@@ -35,7 +47,6 @@ impl Ray {
         requires { qubit < self.old.qubits }
         ensures { self.new ≡ record self.old { amplitudes = applied self.old.qubits x_gate (qubit ∷ []) self.old.amplitudes } }
     {
-        exchange(&mut self.amplitudes, self.qubits, qubit);
-        reduce(&mut self.amplitudes);
+        flip(&mut self.amplitudes, self.qubits, qubit);
     }
 }

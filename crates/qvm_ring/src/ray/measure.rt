@@ -1,9 +1,10 @@
 //! Norms of rays, and what a measurement leaves of one.
 
-ghost use Rattle.std.specs.Prelude.{◌≡◌, ◌≢◌, ◌^◌, ◌<◌, ◌≤◌, [], length};
+ghost use Rattle.std.specs.Prelude.{◌≡◌, ◌≢◌, ℕ, ◌^◌, ◌<◌, ◌≤◌, [], length};
 ghost use Rattle.qvm_ring.specs.Ray.{weight, weight_limit};
 ghost use Rattle.qvm_ring.specs.Measure.{kept, projected};
 ghost use Rattle.qvm_ring.specs.Views.{elements_of, map_of};
+ghost use Rattle.qvm_ring.specs.Vector.{IsVector};
 
 use crate::amp::Amp;
 use crate::ray::Ray;
@@ -32,7 +33,7 @@ fn project(list: &mut [Amp], qubit: u32, bit: u32)
     requires some { kept (map_of (elements_of list.old)) qubit bit ≢ [] }
     requires light { weight (map_of (elements_of list.old)) ≤ weight_limit }
     ensures value { map_of (elements_of list.new) ≡ projected (map_of (elements_of list.old)) qubit bit }
-    ensures length { length list.new ≡ length list.old }
+    ensures vector { (n : ℕ) → IsVector n (elements_of list.old) → IsVector n (elements_of list.new) }
 {
     keep(list, qubit, bit);
     reduce(list);
