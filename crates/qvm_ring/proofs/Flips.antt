@@ -1,5 +1,5 @@
 -- X on a vector: amplitudes change places, two by two.
-use Rattle.std.proofs.Common.{◌≡◌, ◌≢◌, refl, sym, ◌∙◌, ap, subst, ℕ, zero, suc, ◌+◌, ◌-◌, ◌*◌, ◌^◌, ◌<◌, ◌≤◌, ◌==◌, ◌⊎◌, inl, inr, Bool, true, false, List, [], ◌∷◌, length, map, get_or, arith, add-one}
+use Rattle.std.proofs.Common.{◌≡◌, ◌≢◌, refl, sym, ◌∙◌, ap, subst, ℕ, zero, suc, ◌+◌, ◌-◌, ◌*◌, ◌^◌, ◌<◌, ◌≤◌, ◌==◌, ◌⊎◌, inl, inr, Bool, false, List, [], ◌∷◌, length, get_or, arith, add-one}
 use Rattle.std.specs.Prelude.{if◌then◌else◌, nat_lt, pos}
 use Rattle.std.specs.List.{SwappedAt}
 use Rattle.std.proofs.lemmas.List.{length-map}
@@ -7,7 +7,7 @@ use Rattle.std.proofs.lemmas.Bool.{lt-ltb, le-ltb, eq-eqb}
 use Rattle.std.proofs.lemmas.Bool.Decides.{nat_tests}
 use Rattle.qvm_ring.specs.declared.amp.Amp.{Amp}
 use Rattle.qvm_ring.specs.Ring.{Element, nought, unit, plus, times, norm_whole}
-use Rattle.qvm_ring.specs.Ray.{Ray, amplitude_at, ray_of, weight, reduced, IsFiniteMap}
+use Rattle.qvm_ring.specs.Ray.{Ray, amplitude_at, ray_of, weight, IsFiniteMap}
 use Rattle.qvm_ring.specs.Gate.{Gate, bit_of, with_bit, product_at, x_gate, applied}
 use Rattle.qvm_ring.specs.Views.{at, map_of, element_of, elements_of}
 use Rattle.qvm_ring.proofs.Bits.{bit_of_below, bit_of_with_bit, with_own_bit, with_bit_twice, with_bit_below}

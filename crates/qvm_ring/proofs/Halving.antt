@@ -1,11 +1,11 @@
 -- Division by √2 of a list of elements, and what the loop of divisions keeps.
-use Rattle.std.proofs.Common.{◌≡◌, ◌≢◌, refl, sym, ◌∙◌, ap, subst, ℕ, zero, suc, ◌+◌, ◌*◌, ◌/◌, ◌^◌, ◌<◌, ◌≤◌, Bool, true, false, ◌&&◌, List, [], ◌∷◌, length, map, arith}
+use Rattle.std.proofs.Common.{◌≡◌, ◌≢◌, refl, sym, ◌∙◌, ap, subst, ℕ, zero, suc, ◌+◌, ◌*◌, ◌/◌, ◌<◌, ◌≤◌, Bool, true, false, ◌&&◌, List, [], length, map, arith}
 use Rattle.std.specs.Prelude.{All, ℤ, pos, negsuc, ◌+ℤ◌, ◌-ℤ◌, nat_abs, int_div}
 use Rattle.std.specs.List.{list_all}
 use Rattle.std.proofs.lemmas.Int.{ints}
 use Rattle.std.proofs.lemmas.List.{length-map}
 use Rattle.qvm_ring.specs.Ring.{Element, nought, is_divisible, quotient}
-use Rattle.qvm_ring.specs.Ray.{Ray, ray_of, weight, all_divisible, all_divided, lone_is_unit, reduced}
+use Rattle.qvm_ring.specs.Ray.{ray_of, weight, all_divisible, all_divided, lone_is_unit, reduced}
 use Rattle.qvm_ring.specs.Views.{at, map_of, IsBelow}
 use Rattle.qvm_ring.proofs.FiniteMaps.{IsFiniteMap-ray_of}
 use Rattle.qvm_ring.proofs.RayLemmas.{weight_all_divided}

@@ -5,7 +5,7 @@ use Rattle.std.specs.List.{list_all}
 use Rattle.std.proofs.Math.ListN.{length-set}
 use Rattle.std.proofs.lemmas.List.{map-set, length-map}
 use Rattle.qvm_ring.specs.Ring.{Element, nought}
-use Rattle.qvm_ring.specs.Ray.{Ray, ray_of}
+use Rattle.qvm_ring.specs.Ray.{ray_of}
 use Rattle.qvm_ring.specs.Views.{at, map_of}
 use Rattle.qvm_ring.proofs.FiniteMaps.{order_of}
 use Rattle.qvm_ring.proofs.Vectors.{same_ray_of}

@@ -1,6 +1,6 @@
 -- The reduced form of finite maps, and what their weight says of their coefficients.
-use Rattle.std.proofs.Common.{◌≡◌, ◌≢◌, refl, sym, ◌∙◌, ap, subst, ℕ, zero, suc, ◌-◌, ◌*◌, ◌^◌, ◌<◌, ◌≤◌, ◌==◌, Bool, true, false, ◌&&◌, List, [], ◌∷◌, length, get_or, arith}
-use Rattle.std.specs.Prelude.{nat_abs, ℤ, nat_lt, All}
+use Rattle.std.proofs.Common.{◌≡◌, ◌≢◌, refl, sym, ◌∙◌, ap, ℕ, zero, suc, ◌-◌, ◌*◌, ◌^◌, ◌<◌, ◌≤◌, ◌==◌, Bool, true, false, ◌&&◌, [], ◌∷◌, arith}
+use Rattle.std.specs.Prelude.{nat_abs, ℤ, nat_lt}
 use Rattle.std.proofs.lemmas.Bool.{ltb-true, ltb-false}
 use Rattle.std.proofs.Math.Nat.{mul-le-mul}
 use Rattle.qvm_ring.specs.Ring.{Element, nought, square, norm_whole, is_zero, is_divisible, quotient, times, root_two}

@@ -1,19 +1,19 @@
 -- When the vector of a ray is a state, and what the methods need of one.
-use Rattle.std.proofs.Common.{◌≡◌, ◌≢◌, refl, sym, ◌∙◌, ap, subst, ℕ, zero, suc, ◌+◌, ◌^◌, ◌<◌, ◌≤◌, inl, inr, List, [], ◌∷◌, length, map, set, get_or, replicate, arith}
-use Rattle.std.specs.Prelude.{All, nat_abs}
+use Rattle.std.proofs.Common.{◌≡◌, ◌≢◌, refl, sym, ◌∙◌, ap, subst, ℕ, zero, suc, ◌^◌, ◌<◌, ◌≤◌, inl, inr, List, [], ◌∷◌, ◌++◌, take, length, set, get_or, replicate, arith}
+use Rattle.std.specs.Prelude.{All}
 use Rattle.std.proofs.Math.ListN.{length-set}
+use Rattle.std.proofs.Math.Seq.{take-append_seam}
 use Rattle.std.proofs.Math.Nat.{pow-le-pow_right}
 use Rattle.std.proofs.lemmas.List.{length-map}
 use Rattle.qvm_ring.specs.declared.amp.Amp.{Amp}
-use Rattle.qvm_ring.specs.Ring.{Element, nought, unit, norm_whole}
-use Rattle.qvm_ring.specs.Ray.{Ray, State, IsState, IsFiniteMap, amplitude_at, ray_of, weight, weight_limit, reduced}
-use Rattle.qvm_ring.specs.Gate.{zero_ray, applied, x_gate, product_at}
+use Rattle.qvm_ring.specs.Ring.{Element, nought, unit}
+use Rattle.qvm_ring.specs.Ray.{Ray, State, IsFiniteMap, amplitude_at, ray_of, weight, weight_limit, reduced}
+use Rattle.qvm_ring.specs.Gate.{zero_ray, x_gate, product_at}
 use Rattle.qvm_ring.specs.Measure.{kept, projected}
 use Rattle.qvm_ring.specs.Views.{at, map_of, element_of, elements_of, IsBelow}
 use Rattle.qvm_ring.specs.Vector.{IsVector}
-use Rattle.qvm_ring.proofs.Bits.{power_positive}
 use Rattle.qvm_ring.proofs.FiniteMaps.{order_of, is_ray_of, IsFiniteMap-ray_of, amplitude_at_ray_of, amplitude_at_head, amplitude_at_tail}
-use Rattle.qvm_ring.proofs.Reductions.{IsBelow-norm_whole, IsFiniteMap-reduced, reduced_some, weight_positive, weight_reduced_le}
+use Rattle.qvm_ring.proofs.Reductions.{IsBelow-norm_whole, reduced_some, weight_positive, weight_reduced_le}
 use Rattle.qvm_ring.proofs.Vectors.{weight_room, kept_at, kept_ray_of}
 use Rattle.qvm_ring.proofs.NormLoops.{weight_kept}
 use Rattle.qvm_ring.proofs.Flips.{weight_x_product, x_product_some}
@@ -110,3 +110,17 @@ few_of n zs l e v = omega (arith, ap length e, length-map zs element_of, few_ele
 pub room_for : (n x : ℕ) (s : State) (zs l : List Amp) → record { qubits = n; amplitudes = map_of (elements_of zs) } ≡ s → l ≡ zs → IsVector n (elements_of zs) → x < 2 ^ s.qubits → x < length l
 room_for n x s zs l p e v h =
     omega (arith, ap length e, length-map zs element_of, v.size, ap (λ (t : State). 2 ^ t.qubits) p)
+
+-- what a slice of a whole vector writes back is the slice
+pub written_back : (n : ℕ) (l rest : List Amp) → length l ≡ n → take n (l ++ rest) ≡ l
+written_back n l rest e = ap (λ (k : ℕ). take k (l ++ rest)) (sym e) ∙ take-append_seam l rest
+
+pub IsVector-written : (n m : ℕ) (l rest : List Amp) → length l ≡ m → IsVector n (elements_of l) → IsVector n (elements_of (take m (l ++ rest)))
+IsVector-written n m l rest e v = subst (λ (k : List Amp). IsVector n (elements_of k)) (sym (written_back m l rest e)) v
+
+-- the reduced form of a copy l of zs
+pub IsVector-copied : (n : ℕ) (zs l ys : List Amp) → n ≤ 16 → length zs ≡ 2 ^ n → l ≡ zs → length ys ≡ length l → map_of (elements_of zs) ≢ [] → weight (map_of (elements_of zs)) ≤ weight_limit →
+    map_of (elements_of ys) ≡ reduced (map_of (elements_of l)) → IsVector n (elements_of ys)
+IsVector-copied n zs l ys h e p q s w r =
+    IsVector-reduced n (elements_of zs) (elements_of ys) h (length-map zs element_of ∙ e)
+    (length-map ys element_of ∙ q ∙ ap length p ∙ sym (length-map zs element_of)) s w (r ∙ ap (λ (k : List Amp). reduced (map_of (elements_of k))) p)

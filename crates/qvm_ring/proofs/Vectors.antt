@@ -1,11 +1,11 @@
 -- The finite map of a function below n, step by step: what a loop over a vector of amplitudes adds.
-use Rattle.std.proofs.Common.{◌≡◌, ◌≢◌, refl, sym, ◌∙◌, ap, subst, ℕ, zero, suc, ◌+◌, ◌*◌, ◌<◌, ◌≤◌, ◌==◌, inl, inr, Bool, true, false, ◌&&◌, cond, [], ◌∷◌, ◌++◌, arith}
-use Rattle.std.specs.Prelude.{if◌then◌else◌, ℤ, pos, ◌+ℤ◌}
+use Rattle.std.proofs.Common.{◌≡◌, ◌≢◌, refl, sym, ◌∙◌, ap, ℕ, zero, suc, ◌+◌, ◌<◌, ◌≤◌, ◌==◌, inl, inr, Bool, true, false, ◌&&◌, cond, [], ◌∷◌, ◌++◌, arith}
+use Rattle.std.specs.Prelude.{if◌then◌else◌, ℤ, ◌+ℤ◌}
 use Rattle.std.proofs.lemmas.Int.{ints}
 use borrow.Author.Differences.{same_in}
 use Rattle.std.proofs.Math.IntN.{+ℤ_idl, +ℤ_idr}
-use Rattle.qvm_ring.specs.Ring.{Element, nought, unit, norm_whole, norm_root, is_zero, is_divisible, quotient}
-use Rattle.qvm_ring.specs.Ray.{Ray, amplitude_at, entry_if_any, ray_of, weight, all_divisible, all_divided, lone_is_unit}
+use Rattle.qvm_ring.specs.Ring.{Element, nought, norm_whole, norm_root, is_zero, is_divisible, quotient}
+use Rattle.qvm_ring.specs.Ray.{Ray, amplitude_at, entry_if_any, ray_of, weight, all_divisible, all_divided}
 use Rattle.qvm_ring.specs.Gate.{bit_of}
 use Rattle.qvm_ring.specs.Measure.{sum_of_roots, kept}
 use Rattle.qvm_ring.proofs.Elements.{nought_if_zero}

@@ -1,4 +1,4 @@
-use Rattle.std.proofs.Common.{◌≡◌, refl, ◌∙◌, ap, ◌<◌, ◌≤◌, length, arith}
+use Rattle.std.proofs.Common.{refl, ◌∙◌, ap, arith}
 use Rattle.std.proofs.lemmas.List.{map-set, length-map}
 use Rattle.qvm_ring.specs.Ring.{nought, unit}
 use Rattle.qvm_ring.specs.Views.{map_of, element_of, elements_of}

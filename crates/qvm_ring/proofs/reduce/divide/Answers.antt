@@ -1,7 +1,7 @@
-use Rattle.std.proofs.Common.{◌≡◌, refl, sym, ◌∙◌, ap, subst, ◌<◌, ◌≤◌, length, map, get_or, arith}
+use Rattle.std.proofs.Common.{refl, sym, ◌∙◌, ap, subst, map, arith}
 use Rattle.std.proofs.lemmas.List.{length-map}
 use Rattle.qvm_ring.specs.Ring.{quotient}
-use Rattle.qvm_ring.specs.Views.{at, IsBelow}
+use Rattle.qvm_ring.specs.Views.{IsBelow}
 use Rattle.qvm_ring.proofs.Lists.{All_at, Changes-here, Changes-next}
 use Rattle.qvm_ring.proofs.Halving.{divided_end}
 use Rattle.qvm_ring.proofs.reduce.divide.Goals as goal

@@ -1,5 +1,5 @@
-use Rattle.std.proofs.Common.{rules, ◌≡◌, sym, ◌∙◌, ap, subst, ℕ, ◌+◌, ◌<◌, ◌≤◌, length, map, true, false, arith}
-use Rattle.std.specs.Prelude.{Option, is_some}
+use Rattle.std.proofs.Common.{rules, ◌≡◌, sym, ◌∙◌, ap, subst, ◌+◌, length, map, true, false, arith}
+use Rattle.std.specs.Prelude.{is_some}
 use Rattle.std.proofs.lemmas.List.{length-map}
 use Rattle.qvm_ring.specs.Ring.{is_zero}
 use Rattle.qvm_ring.specs.Views.{at}

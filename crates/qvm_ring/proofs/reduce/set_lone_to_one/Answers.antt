@@ -1,4 +1,4 @@
-use Rattle.std.proofs.Common.{◌≡◌, ◌∙◌, ap, ◌<◌, length, map, arith}
+use Rattle.std.proofs.Common.{◌∙◌, ap, map, arith}
 use Rattle.std.proofs.lemmas.List.{map-set, length-map}
 use Rattle.qvm_ring.specs.Views.{map_of}
 use Rattle.qvm_ring.proofs.Lone.{lone_set}

@@ -1,6 +1,5 @@
-use Rattle.std.proofs.Common.{rules, ◌≡◌, sym, ◌+◌, ◌<◌, ◌≤◌, length, arith, false}
+use Rattle.std.proofs.Common.{rules, ◌≡◌, sym, length, arith, false}
 use Rattle.std.proofs.lemmas.List.{length-map}
-use Rattle.qvm_ring.specs.Ray.{weight_limit}
 use Rattle.qvm_ring.specs.Views.{at, wide_element, wide_elements_of}
 use Rattle.qvm_ring.proofs.Lists.{at_map}
 use Rattle.qvm_ring.proofs.Settling.{heavy_one, heavy_sum, total_next}

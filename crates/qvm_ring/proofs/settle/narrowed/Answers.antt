@@ -1,4 +1,4 @@
-use Rattle.std.proofs.Common.{◌≡◌, subst, ◌^◌, ◌<◌, length, arith}
+use Rattle.std.proofs.Common.{subst, ◌^◌, arith}
 use Rattle.std.proofs.lemmas.List.{length-map}
 use Rattle.qvm_ring.specs.Views.{wide_element, wide_elements_of, IsBelow}
 use Rattle.qvm_ring.proofs.Lists.{at_map, All_at}

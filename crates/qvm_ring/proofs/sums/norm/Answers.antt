@@ -1,4 +1,4 @@
-use Rattle.std.proofs.Common.{sym, ◌<◌, length, arith}
+use Rattle.std.proofs.Common.{sym, length, arith}
 use Rattle.std.proofs.lemmas.List.{length-map}
 use Rattle.qvm_ring.specs.Views.{at, element_of, elements_of}
 use Rattle.qvm_ring.proofs.Lists.{at_map}

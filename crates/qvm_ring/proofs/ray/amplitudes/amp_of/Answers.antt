@@ -1,4 +1,3 @@
-use Rattle.std.proofs.Common.{arith, ◌<◌}
 use Rattle.qvm_ring.proofs.States.{amp_at}
 use Rattle.qvm_ring.proofs.ray.amplitudes.amp_of.Goals as goal
 

@@ -1,4 +1,4 @@
-use Rattle.std.proofs.Common.{◌≡◌, sym, ◌∙◌, subst, ℕ, ◌+◌, ◌==◌, ◌<◌, ◌≤◌, List, length, arith}
+use Rattle.std.proofs.Common.{sym, ◌∙◌, subst, ◌+◌, ◌==◌, List, length, arith}
 use Rattle.std.specs.Prelude.{if◌then◌else◌}
 use Rattle.std.proofs.lemmas.List.{length-map}
 use Rattle.qvm_ring.specs.declared.amp.Amp.{Amp}

@@ -1,7 +1,6 @@
 use Rattle.std.proofs.Common.{refl}
-use Rattle.qvm_ring.specs.declared.signed_norm.Norm.{Norm as SignedNorm}
 use Rattle.qvm_ring.specs.Views.{element_of}
-use Rattle.qvm_ring.proofs.NormLoops.{IsAdded, IsAdded-made, IsAdded-value, IsAdded-bounds}
+use Rattle.qvm_ring.proofs.NormLoops.{IsAdded-made, IsAdded-value, IsAdded-bounds}
 use Rattle.qvm_ring.proofs.signed_norm.Norm.add.Goals as goal
 
 pub returns-clause-value : goal.returns-clause-value
