@@ -11,6 +11,8 @@ use std::marker::Model;
 mod amplitudes;
 mod flip;
 mod measure;
+#[cfg(test)]
+mod tests;
 
 /// The state of up to 16 qubits, up to a factor.
 ///

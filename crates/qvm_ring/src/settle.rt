@@ -50,8 +50,8 @@ fn is_small(z: Wide) -> bool
     z.d.unsigned_abs() < bound
 }
 
-// Whether all weigh at most 2^94.
-fn is_light(list: &[Wide]) -> bool
+/// Whether they weigh at most 2^94.
+pub(crate) fn is_light(list: &[Wide]) -> bool
     ensures light { result ≡ true → weight (map_of (wide_elements_of list.now)) ≤ weight_limit }
     ensures heavy { result ≡ false → weight_limit < weight (map_of (wide_elements_of list.now)) }
 {
@@ -80,7 +80,8 @@ fn narrow(z: Wide) -> Amp
     }
 }
 
-fn narrowed(alloc: Global, list: &[Wide]) -> Result<Vec<Amp>, AllocError>
+/// The list with coefficients of 64 bits.
+pub(crate) fn narrowed(alloc: Global, list: &[Wide]) -> Result<Vec<Amp>, AllocError>
     requires { All (IsBelow (2 ^ 62)) (wide_elements_of list.now) }
     ensures { IfOk result (λ v. elements_of v.items ≡ wide_elements_of list.now) }
 {

@@ -7,6 +7,7 @@ ghost use Rattle.qvm_ring.specs.Views.{element_of, IsBelow};
 ghost use Rattle.qvm_ring.specs.NormViews.{norm_seen, IsNorm};
 
 use crate::amp::Amp;
+use crate::number::Number;
 
 /// The number u + v√2.
 #[derive(Clone, Copy, Debug, PartialEq, Eq)]
@@ -18,13 +19,16 @@ pub struct Norm {
 impl Norm {
     pub(crate) const ZERO: Norm = Norm { u: 0, v: 0 };
 
-    // Adds |amplitude|².
+    /// Adds |amplitude|².
     pub(crate) fn add(&mut self, amplitude: Amp)
         requires so_far { IsNorm self.old }
         requires room { (norm_seen self.old).u + norm_whole (element_of amplitude) ≤ weight_limit }
         ensures value { norm_seen self.new ≡ record { u = (norm_seen self.old).u + norm_whole (element_of amplitude); v = self.old.v +ℤ norm_root (element_of amplitude) } }
         ensures bounds { IsNorm self.new }
     {
+        if amplitude.is_zero() {
+            return;
+        }
         self.u += amplitude.weight() as i128;
         self.v += root(amplitude);
     }
@@ -64,20 +68,4 @@ fn root(z: Amp) -> i128
     let first = sum(product(z.a, z.b), product(z.b, z.c));
     let second = difference(product(z.c, z.d), product(z.d, z.a));
     sum(first, second)
-}
-
-#[cfg(test)]
-mod tests {
-    use super::*;
-
-    // |1 + ω|² = 2 + √2, |1 - ω|² = 2 - √2, |1 + ω³|² = 2 - √2.
-    #[test]
-    fn roots(rt: HostRuntime) {
-        let plus = Amp { b: 1, ..Amp::ONE };
-        let minus = Amp { b: -1, ..Amp::ONE };
-        let cube = Amp { d: 1, ..Amp::ONE };
-        assert_eq!(rt; root(plus), 1);
-        assert_eq!(rt; root(minus), -1);
-        assert_eq!(rt; root(cube), -1);
-    }
 }

@@ -1,4 +1,5 @@
-use Rattle.std.proofs.Common.{refl}
+use Rattle.std.proofs.Common.{refl, arith}
+use Rattle.std.proofs.lemmas.Int.{ints}
 use Rattle.qvm_ring.specs.Views.{element_of}
 use Rattle.qvm_ring.proofs.NormLoops.{IsAdded-made, IsAdded-value, IsAdded-bounds}
 use Rattle.qvm_ring.proofs.signed_norm.Norm.add.Goals as goal
@@ -12,3 +13,6 @@ pub returns-clause-bounds : goal.returns-clause-bounds
 returns-clause-bounds c =
     IsAdded-bounds c.args.self.now _ c.weight.result c.root.result (element_of c.args.amplitude) c.requires.so_far c.weight.ensures c.root.ensures.bound c.requires.room
     (IsAdded-made c.args.self.now _ c.weight.result c.root.result (element_of c.args.amplitude) c.requires.so_far c.weight.ensures c.root.ensures.bound c.requires.room refl refl)
+
+pub overflow_add-self-2 : goal.overflow_add-self-2
+overflow_add-self-2 c = omega (arith, ints, c.requires.so_far.root, c.root.ensures.bound, c.requires.room)
