@@ -16,3 +16,13 @@ pub mod Powers
 pub mod Flips
 pub mod States
 pub mod Settling
+pub mod Associative
+pub mod Sums
+pub mod LocalStates
+pub mod Isometries
+pub mod LocalLoops
+pub mod ProductBounds
+pub mod Products
+pub mod Applied
+pub mod Descent
+pub mod Roots

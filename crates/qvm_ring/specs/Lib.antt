@@ -1,8 +1,11 @@
 pub mod Ring
 pub mod Ray
 pub mod Gate
+pub mod Isometry
 pub mod Measure
 pub mod Examples
 pub mod Views
+pub mod Multiply
 pub mod Vector
+pub mod Table
 pub mod NormViews

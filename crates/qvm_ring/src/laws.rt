@@ -28,7 +28,7 @@ pub fn reduced_rays()
 
 /// X makes no ray heavier, so its product never passes the limit.
 #[tactic(auto, using(crate::proofs::Flips::x_no_heavier))]
-pub fn flipped_rays()
+pub fn x_never_passes_the_limit()
     ensures { (n qubit : ℕ) (ray : Ray) → qubit < n → IsFiniteMap 0 (2 ^ n) ray → ray ≢ [] → weight (applied n x_gate (qubit ∷ []) ray) ≤ weight ray }
 {}
 

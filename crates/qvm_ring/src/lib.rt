@@ -4,26 +4,35 @@
 #![tactic(auto)]
 
 mod amp;
+mod comparison;
 mod examples;
 mod fault;
+mod gate_laws;
 mod laws;
+mod local;
 mod measure_laws;
+mod multiply;
 mod number;
+mod product;
 mod ray;
 mod reduce;
 mod settle;
 mod signed_norm;
 mod sums;
+mod table;
 mod wide;
 
 pub use amp::Amp;
+pub use comparison::greater;
 pub use examples::{gates_by_hand, measurements_by_hand, rays_by_hand};
 pub use fault::ApplyFault;
+pub use gate_laws::{gates_are_isometries, isometries_keep_some};
 pub use laws::{
-    flipped_rays, gates_are_unitary, norm_is_product_with_conjugate, quotient_times_root_two, reduced_rays,
-    sign_of_norms,
+    x_never_passes_the_limit, gates_are_unitary, norm_is_product_with_conjugate, quotient_times_root_two,
+    reduced_rays, sign_of_norms,
 };
 pub use measure_laws::{norms_are_positive, outcomes_keep_some};
+pub use multiply::mul;
 pub use ray::Ray;
 pub use reduce::halve;
 pub use signed_norm::Norm;

@@ -10,6 +10,7 @@ use std::marker::Model;
 
 mod amplitudes;
 mod flip;
+mod gates;
 mod measure;
 #[cfg(test)]
 mod tests;
