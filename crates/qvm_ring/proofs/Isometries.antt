@@ -11,7 +11,7 @@ use Rattle.qvm_ring.specs.Isometry.{IsIsometry}
 use Rattle.qvm_ring.proofs.RingLemmas.{same_element}
 use Rattle.qvm_ring.proofs.Elements.{times_nought}
 use Rattle.qvm_ring.proofs.Bits.{power_positive}
-use Rattle.qvm_ring.proofs.Sums.{sum_same, sum_nought, sum_lone}
+use Rattle.qvm_ring.proofs.Summed.{sum_same, sum_nought, sum_lone}
 use Rattle.qvm_ring.proofs.FiniteMaps.{amplitude_at_head, amplitude_at_ray_of, not_zero}
 use Rattle.qvm_ring.proofs.LocalStates.{AreDifferent, local_below, with_own_local, with_local_below, with_local_twice, local_of_with}
 use Rattle.qvm_ring.proofs.Associative.{times_assoc, times_summed, summed_times, summed_swap, times_zero}

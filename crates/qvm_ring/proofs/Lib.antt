@@ -17,7 +17,7 @@ pub mod Flips
 pub mod States
 pub mod Settling
 pub mod Associative
-pub mod Sums
+pub mod Summed
 pub mod LocalStates
 pub mod Isometries
 pub mod LocalLoops

@@ -14,7 +14,7 @@ use Rattle.qvm_ring.specs.Table.{table_gate, IsTableOf}
 use Rattle.qvm_ring.proofs.Elements.{nought_if_zero, plus_nought, times_nought}
 use Rattle.qvm_ring.proofs.FiniteMaps.{amplitude_at_ray_of, order_of}
 use Rattle.qvm_ring.proofs.Vectors.{same_ray_of}
-use Rattle.qvm_ring.proofs.Sums.{sum_same}
+use Rattle.qvm_ring.proofs.Summed.{sum_same}
 use Rattle.qvm_ring.proofs.Associative.{times_zero}
 use Rattle.qvm_ring.proofs.LocalStates.{local_below}
 
