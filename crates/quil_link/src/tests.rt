@@ -55,7 +55,7 @@ X 37⏎H 31⏎CNOT 30 37⏎MEASURE 31 => [30, 31, 37] 1 X(2); 2 H(1); 3 Cnot(0, 
 X 65535⏎X 0 => [0, 65535] 1 X(1); 2 X(0);
 CNOT 9 4⏎CNOT 4 9 => [4, 9] 1 Cnot(1, 0); 2 Cnot(0, 1);
 X 0;X 1;X 2;X 3;X 4;X 5;X 6;X 7;X 8;X 9;X 10;X 11;X 12;X 13;X 14;X 16 => [0, 1, 2, 3, 4, 5, 6, 7, 8, 9, 10, 11, 12, 13, 14, 16] 1 X(0); 1 X(1); 1 X(2); 1 X(3); 1 X(4); 1 X(5); 1 X(6); 1 X(7); 1 X(8); 1 X(9); 1 X(10); 1 X(11); 1 X(12); 1 X(13); 1 X(14); 1 X(15);
-X 0;X 1;X 2;X 3;X 4;X 5;X 6;X 7;X 8;X 9;X 10;X 11;X 12;X 13;X 14;X 15;MEASURE 16 => 27 TooManyQubits count=17
+X 0;X 1;X 2;X 3;X 4;X 5;X 6;X 7;X 8;X 9;X 10;X 11;X 12;X 13;X 14;RESET 15;RESET;MEASURE 16 => 27 TooManyQubits count=17
 X 0;X 1;X 2;X 3;X 4;X 5;X 6;X 7;X 8;X 9;X 10;X 11;X 12;X 13;X 14;CNOT 15 16;CNOT 17 17 => 19 RepeatedQubit line=1
 DECLARE a BIT[9]⏎DECLARE b BIT[2]⏎MEASURE 3 b[1] => [3] 1 Passive; 2 Passive; 3 Measure(0, Some(Cell { first: 10 }));
 MOVE b 1⏎DECLARE a INTEGER⏎DECLARE b BIT[4] SHARING a OFFSET 1 OCTET 2 BIT => [] 1 Classic(Move { kind: Bit, target: Cell { first: 10 }, source: Literal(1) }); 2 Passive; 3 Passive;
@@ -69,11 +69,11 @@ DECLARE a BIT⏎DECLARE b INTEGER[1024] => 13 MemoryTooLarge bits=65537
 MOVE a $ => 5 BadToken column=8 line=1
 X 65536 => 4 NumberTooWide column=3 line=1
 OR a b => 8 LeftOut line=1 word=OR
-RESET⏎MOVE a ) => 6 Unexpected column=8 line=2
-DECLARE a BIT⏎DECLARE a BIT⏎RESET => 57 NotBuilt line=3
-RESET⏎DECLARE a BIT⏎DECLARE a BIT => 57 NotBuilt line=1
-X⏎RESET => 57 NotBuilt line=2
-RESET 0⏎⏎LABEL @a => 57 NotBuilt line=1
+LABEL @a⏎MOVE a ) => 6 Unexpected column=8 line=2
+DECLARE a BIT⏎DECLARE a BIT⏎LABEL @a => 57 NotBuilt line=3
+LABEL @a⏎DECLARE a BIT⏎DECLARE a BIT => 57 NotBuilt line=1
+X⏎LABEL @a => 57 NotBuilt line=2
+RESET 0⏎⏎LABEL @a => 57 NotBuilt line=3
 DECLARE a BIT⏎MOVE a 2⏎MOVE a pi => 57 NotBuilt line=3
 X⏎DECLARE a BIT⏎DECLARE a BIT => 9 Redeclared word=a
 DECLARE a BIT⏎DECLARE a BIT⏎X => 9 Redeclared word=a
@@ -196,7 +196,8 @@ X => 18 Arity line=2
 H 0 0 => 18 Arity line=2
 CNOT 0 => 18 Arity line=2
 CNOT 0 1 2 => 18 Arity line=2
-RESET => 57 NotBuilt line=2
+RESET => [] 2 Reset(None);
+X 4⏎RESET 5⏎RESET 3 => [3, 4, 5] 2 X(1); 3 Reset(Some(2)); 4 Reset(Some(0));
 LABEL @a => 57 NotBuilt line=2
 JUMP @a => 57 NotBuilt line=2
 JUMP-WHEN @a b => 57 NotBuilt line=2
