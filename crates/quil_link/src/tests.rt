@@ -1,7 +1,8 @@
 //! Programs and refusals of texts, as the rules give them by hand. In a row `⏎` stands for a line feed.
 
 use crate::load;
-use quil_code::Code;
+use quil_code::{Code, LoadFault};
+use quil_memory::Layout;
 use std::alloc::Global;
 use std::test::*;
 
@@ -16,17 +17,31 @@ fn code_text(alloc: Global, code: &Code, from: usize) -> Said {
     Ok(said)
 }
 
+fn refusal_text(alloc: Global, fault: &LoadFault) -> Said {
+    let mut said = Vec::new(alloc);
+    fault.diagnostic().push_text(alloc, &mut said)?;
+    let said = str::from_utf8(&said).unwrap_or("?");
+    Ok(format!(in alloc; "{said}")?)
+}
+
 // The program of a text without its first lines, or the text of the refusal.
 fn told(alloc: Global, text: &str, from: usize) -> Said {
     match load(alloc, text.as_bytes()) {
         Ok(code) => code_text(alloc, &code, from),
-        Err(fault) => {
-            let mut said = Vec::new(alloc);
-            fault.diagnostic().push_text(alloc, &mut said)?;
-            let said = str::from_utf8(&said).unwrap_or("?");
-            Ok(format!(in alloc; "{said}")?)
-        }
+        Err(fault) => refusal_text(alloc, &fault),
     }
+}
+
+// The first bits of the regions, and the bits of all.
+fn layout_text(alloc: Global, layout: &Layout) -> Said {
+    let mut said = String::new(alloc);
+    for region in 0..layout.count() {
+        let word = str::from_utf8(layout.name(region).as_bytes()).unwrap_or("?");
+        let first = layout.first(region);
+        said.push_str(&format!(in alloc; "{word} {first}, ")?)?;
+    }
+    said.push_str(&format!(in alloc; "{} bits", layout.bits())?)?;
+    Ok(said)
 }
 
 // The rows whose texts, behind a front, say something else; a front has so many lines of a program.
@@ -44,6 +59,65 @@ fn misses(alloc: Global, front: &str, from: usize, table: &str) -> Said {
         }
     }
     Ok(all)
+}
+
+#[test]
+fn regions_are_laid_out_so(rt: HostRuntime) -> Result<(), Fail> {
+    let alloc = rt.alloc();
+    let table = "DECLARE a BIT => a 0, 1 bits
+DECLARE a BIT[3]⏎DECLARE b OCTET[2]⏎DECLARE c INTEGER⏎DECLARE d REAL => a 0, b 3, c 19, d 83, 147 bits
+DECLARE a BIT⏎DECLARE a BIT => 9 Redeclared word=a
+DECLARE a BIT⏎DECLARE A BIT => a 0, A 1, 2 bits
+DECLARE a BIT SHARING b => 10 UnknownRegion word=b
+DECLARE a BIT SHARING a => 10 UnknownRegion word=a
+DECLARE a BIT SHARING b⏎DECLARE b BIT => 10 UnknownRegion word=b
+DECLARE a BIT[8]⏎DECLARE b BIT[8] SHARING a => a 0, b 0, 8 bits
+DECLARE a BIT[8]⏎DECLARE b BIT[9] SHARING a => 11 ShareOutside word=b
+DECLARE a BIT[8]⏎DECLARE b BIT[7] SHARING a OFFSET 1 BIT => a 0, b 1, 8 bits
+DECLARE a BIT[8]⏎DECLARE b BIT[8] SHARING a OFFSET 1 BIT => 11 ShareOutside word=b
+DECLARE a BIT[8]⏎DECLARE b OCTET SHARING a => a 0, b 0, 8 bits
+DECLARE a BIT[9]⏎DECLARE b OCTET SHARING a OFFSET 1 BIT => 12 Misaligned word=b
+DECLARE a BIT⏎DECLARE b OCTET[2]⏎DECLARE c OCTET SHARING b OFFSET 1 OCTET => a 0, b 1, c 9, 17 bits
+DECLARE a BIT⏎DECLARE b BIT[80]⏎DECLARE c OCTET SHARING b OFFSET 7 BIT => 12 Misaligned word=c
+DECLARE a INTEGER[4]⏎DECLARE b BIT[5] SHARING a OFFSET 1 REAL 2 OCTET 3 BIT => a 0, b 83, 256 bits
+DECLARE a BIT[7]⏎DECLARE b INTEGER[4]⏎DECLARE c OCTET[9] SHARING b OFFSET 1 INTEGER⏎DECLARE d OCTET SHARING c OFFSET 8 BIT => a 0, b 7, c 71, d 79, 263 bits
+DECLARE a BIT[7]⏎DECLARE b INTEGER[4]⏎DECLARE c BIT[72] SHARING b OFFSET 1 INTEGER⏎DECLARE d INTEGER SHARING c OFFSET 8 BIT => 12 Misaligned word=d
+DECLARE a INTEGER[4]⏎DECLARE b OCTET[9] SHARING a OFFSET 1 INTEGER⏎DECLARE c INTEGER SHARING b OFFSET 1 OCTET => 12 Misaligned word=c
+DECLARE a INTEGER[4]⏎DECLARE b BIT[63] SHARING a OFFSET 1 BIT⏎DECLARE c BIT[64] SHARING b => 11 ShareOutside word=c
+DECLARE a BIT[64]⏎DECLARE b BIT[64] SHARING a OFFSET 0 BIT 0 REAL => a 0, b 0, 64 bits
+DECLARE a BIT[64]⏎DECLARE b BIT SHARING a OFFSET 18446744073709551615 REAL => 11 ShareOutside word=b
+DECLARE a BIT[64]⏎DECLARE b BIT SHARING a OFFSET 18446744073709551615 REAL 18446744073709551615 REAL 1 BIT => 11 ShareOutside word=b
+DECLARE a BIT[64]⏎DECLARE b REAL[18446744073709551615] SHARING a => 11 ShareOutside word=b
+DECLARE a BIT[64]⏎DECLARE a BIT SHARING b => 9 Redeclared word=a
+DECLARE a BIT[64]⏎DECLARE a BIT[65] SHARING a => 9 Redeclared word=a
+DECLARE a BIT[64]⏎DECLARE a OCTET SHARING a OFFSET 1 BIT => 9 Redeclared word=a
+DECLARE a BIT[64]⏎DECLARE a REAL[1024] => 9 Redeclared word=a
+DECLARE a BIT[64]⏎DECLARE b BIT[65] SHARING c => 10 UnknownRegion word=c
+DECLARE a BIT[64]⏎DECLARE b OCTET SHARING c OFFSET 1 BIT => 10 UnknownRegion word=c
+DECLARE a BIT[64]⏎DECLARE b OCTET[8] SHARING a OFFSET 1 BIT => 11 ShareOutside word=b
+DECLARE a BIT[64]⏎DECLARE b BIT[65473] => 13 MemoryTooLarge bits=65537
+DECLARE a BIT[65536] => a 0, 65536 bits
+DECLARE a BIT[65537] => 13 MemoryTooLarge bits=65537
+DECLARE a REAL[1024] => a 0, 65536 bits
+DECLARE a REAL[1024]⏎DECLARE b REAL[1024] SHARING a⏎DECLARE c BIT[65536] SHARING b => a 0, b 0, c 0, 65536 bits
+DECLARE a REAL[1024]⏎DECLARE b BIT => 13 MemoryTooLarge bits=65537
+DECLARE a REAL[1025] => 13 MemoryTooLarge bits=65600
+DECLARE a BIT[18446744073709551615] => 13 MemoryTooLarge bits=18446744073709551615
+DECLARE a REAL[18446744073709551615] => 13 MemoryTooLarge bits=18446744073709551615
+DECLARE a BIT[2]⏎DECLARE b BIT[18446744073709551614] => 13 MemoryTooLarge bits=18446744073709551615
+DECLARE a BIT⏎DECLARE b BIT[18446744073709551614] => 13 MemoryTooLarge bits=18446744073709551615
+DECLARE a BIT⏎DECLARE b BIT[18446744073709551613] => 13 MemoryTooLarge bits=18446744073709551614
+";
+    for row in table.lines() {
+        let (text, want) = row.split_once(" => ").unwrap_or(("", ""));
+        let text = text.replace(alloc, "⏎", "\n")?;
+        let said = match load(alloc, text.as_bytes()) {
+            Ok(code) => layout_text(alloc, code.layout())?,
+            Err(fault) => refusal_text(alloc, &fault)?,
+        };
+        assert_eq!(rt; said.as_str(), want, "at {row}");
+    }
+    Ok(())
 }
 
 #[test]
