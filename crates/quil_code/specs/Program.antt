@@ -74,6 +74,8 @@ Fits (instruction.X q) count bits = q < count
 Fits (instruction.H q) count bits = q < count
 Fits (instruction.Cnot control target) count bits = (control < count) × (target < count) × (control ≢ target)
 Fits (instruction.Measure q cell) count bits = (q < count) × OutcomeFits cell bits
+Fits (instruction.Reset None) count bits = Unit {0}
+Fits (instruction.Reset (Some q)) count bits = q < count
 Fits (instruction.Classic c) count bits = ClassicFits c bits
 
 -- what each code keeps

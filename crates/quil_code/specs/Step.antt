@@ -1,9 +1,9 @@
--- One step of the abstract machine (arXiv 1608.03355, with MEASURE, WAIT, NOP, HALT and the classical instructions of the Quil
--- specification).
-use Rattle.std.specs.Prelude.{◌≡◌, ℕ, ◌+◌, ◌≤◌, nat_le, Bool, true, false, if◌then◌else◌, List, [], ◌∷◌, length, drop, Option, Some, None, Result, Ok, Err, slice_get}
+-- One step of the abstract machine (arXiv 1608.03355, with MEASURE, RESET, WAIT, NOP, HALT and the classical instructions of the
+-- Quil specification).
+use Rattle.std.specs.Prelude.{◌≡◌, ℕ, ◌+◌, ◌≤◌, nat_le, Bool, true, false, if◌then◌else◌, List, [], ◌∷◌, length, drop, Option, Some, None, is_some, Result, Ok, Err, slice_get}
 use Rattle.std.specs.List.{prefix_len}
-use Rattle.qvm_ring.specs.Ray.{Ray, weight, weight_limit}
-use Rattle.qvm_ring.specs.Gate.{Gate, x_gate, h_gate, cnot_gate, applied}
+use Rattle.qvm_ring.specs.Ray.{Ray, State, weight, weight_limit}
+use Rattle.qvm_ring.specs.Gate.{Gate, x_gate, h_gate, cnot_gate, applied, zero_ray}
 use Rattle.qvm_ring.specs.Measure.{outcome, projected}
 use Rattle.qvm_ring.specs.NormViews.{bit_number}
 use Rattle.quil_memory.specs.declared.cell_type.CellType.TheVariants.{Bit}
@@ -41,6 +41,7 @@ is_passive l = elim l.instruction [
   | instruction.H q ↦ false
   | instruction.Cnot control target ↦ false
   | instruction.Measure q cell ↦ false
+  | instruction.Reset q ↦ false
   | instruction.Classic c ↦ false
 ]
 
@@ -73,6 +74,21 @@ after_measurement q cell word next m =
       at = next;
     })
 
+-- RESET: all qubits 0
+abbrev pub after_reset : ℕ → Quantum → Next
+after_reset next m = Goes (record { ray = record { qubits = m.ray.qubits; amplitudes = zero_ray }; memory = m.memory; at = next })
+
+-- a ray after RESET of a qubit: its measurement by the word, and the gate X on it where the outcome was 1
+abbrev pub with_qubit_reset : ℕ → ℕ → State → Ray
+with_qubit_reset q word ray =
+    let bit = outcome ray.amplitudes q word in
+    let left = projected ray.amplitudes q (bit_number bit) in
+    if bit then applied ray.qubits x_gate (q ∷ []) left else left
+
+abbrev pub after_qubit_reset : ℕ → ℕ → ℕ → Quantum → Next
+after_qubit_reset q word next m =
+    Goes (record { ray = record { qubits = m.ray.qubits; amplitudes = with_qubit_reset q word m.ray }; memory = m.memory; at = next })
+
 abbrev pub after_effect : Effect → ℕ → Quantum → Next
 after_effect (Ok bits) next m = Goes (record { ray = m.ray; memory = bits; at = next })
 after_effect (Err f) next m = Faults (fault_of f)
@@ -86,6 +102,8 @@ after_instruction (instruction.X q) line next word m = after_gate x_gate (q ∷ 
 after_instruction (instruction.H q) line next word m = after_gate h_gate (q ∷ []) line next m
 after_instruction (instruction.Cnot control target) line next word m = after_gate cnot_gate (control ∷ target ∷ []) line next m
 after_instruction (instruction.Measure q cell) line next word m = after_measurement q cell word next m
+after_instruction (instruction.Reset None) line next word m = after_reset next m
+after_instruction (instruction.Reset (Some q)) line next word m = after_qubit_reset q word next m
 after_instruction (instruction.Classic c) line next word m = after_effect (effect line c m.memory) next m
 
 -- past the last line the machine halts
@@ -93,7 +111,7 @@ abbrev pub after_line : Option Line → ℕ → ℕ → Quantum → Next
 after_line None next word m = Halts
 after_line (Some l) next word m = after_instruction l.instruction l.number next word m
 
--- one step, with the word for a measurement
+-- one step, with the word for a measurement or a reset
 unfoldable pub step : Program → Quantum → ℕ → Next
 step program m word =
     let place = here program.lines m.at in
@@ -101,6 +119,7 @@ step program m word =
 
 -- ---- words
 
+-- MEASURE and RESET of a qubit measure; RESET of all doesn't
 abbrev pub is_measurement : Instruction → Bool
 is_measurement instruction.Passive = false
 is_measurement instruction.Nop = false
@@ -110,19 +129,20 @@ is_measurement (instruction.X q) = false
 is_measurement (instruction.H q) = false
 is_measurement (instruction.Cnot control target) = false
 is_measurement (instruction.Measure q cell) = true
+is_measurement (instruction.Reset q) = is_some q
 is_measurement (instruction.Classic c) = false
 
 abbrev pub line_needs_word : Option Line → Bool
 line_needs_word None = false
 line_needs_word (Some l) = is_measurement l.instruction
 
--- whether the step uses its word: exactly at MEASURE
+-- whether the step uses its word: exactly at MEASURE and at RESET of a qubit
 unfoldable pub needs_word : Program → Quantum → Bool
 needs_word program m = line_needs_word (slice_get program.lines (here program.lines m.at))
 
 -- ---- want of memory
 
--- gates and measurements make a new ray
+-- gates make a new ray
 abbrev pub makes_ray : Instruction → Bool
 makes_ray instruction.Passive = false
 makes_ray instruction.Nop = false
@@ -131,14 +151,15 @@ makes_ray instruction.Halt = false
 makes_ray (instruction.X q) = true
 makes_ray (instruction.H q) = true
 makes_ray (instruction.Cnot control target) = true
-makes_ray (instruction.Measure q cell) = true
+makes_ray (instruction.Measure q cell) = false
+makes_ray (instruction.Reset q) = false
 makes_ray (instruction.Classic c) = false
 
 abbrev pub line_may_want_memory : Option Line → Bool
 line_may_want_memory None = false
 line_may_want_memory (Some l) = makes_ray l.instruction
 
--- whether memory may run out in the step: at a gate or a measurement alone
+-- whether memory may run out in the step: at a gate alone
 unfoldable pub may_want_memory : Program → Quantum → Bool
 may_want_memory program m = line_may_want_memory (slice_get program.lines (here program.lines m.at))
 

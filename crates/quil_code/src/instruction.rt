@@ -21,6 +21,8 @@ pub enum Instruction {
     Cnot(u32, u32),
     /// MEASURE of a qubit, into a BIT where there is one.
     Measure(u32, Option<Cell>),
+    /// RESET of a qubit, or of all where there is none.
+    Reset(Option<u32>),
     /// A classical instruction.
     Classic(Classic),
 }

@@ -1,5 +1,6 @@
 -- The numbers of a program's qubits.
 use Rattle.std.proofs.Common.{◌≡◌, ◌≢◌, ℕ, zero, suc, ◌+◌, ◌<◌, ◌≤◌, ◌^◌, ◌||◌, Bool, true, false, not, cond, nat_eq, nat_lt, List, [], ◌∷◌, length, get_or, map, refl, sym, ap, ◌∙◌, subst, arith}
+use Rattle.std.specs.Prelude.{Some, None}
 use Rattle.std.specs.List.{filter, range_with_len, list_any, position_or_len, AllByRecursion}
 use Rattle.std.specs.List.Sorted.{IsStrictlyIncreasing}
 use Rattle.std.proofs.lemmas.List.{length-map}
@@ -109,6 +110,8 @@ numbered_fits (instruction.Cnot c t) qs limit bits fit among =
     let second = stands_at_place qs t (among t (or_right (nat_eq c t) (nat_eq t t) (same_is_eq t)) fit.1) in
     (first.below, second.below, λ e. fit.2 (sym first.here ∙ ap (λ i. get_or qs i 0) e ∙ second.here))
 numbered_fits (instruction.Measure q b) qs limit bits fit among = ((stands_at_place qs q (among q (same_is_eq q) fit.0)).below, fit.1)
+numbered_fits (instruction.Reset None) qs limit bits fit among = fit
+numbered_fits (instruction.Reset (Some q)) qs limit bits fit among = (stands_at_place qs q (among q (same_is_eq q) fit)).below
 numbered_fits (instruction.Classic c) qs limit bits fit among = fit
 
 lines_fit : (lines : List Line) (qs : List ℕ) (limit bits : ℕ) → AllByRecursion (λ l. Fits l.instruction limit bits) lines → ((q : ℕ) → is_used lines q ≡ true → q < limit → is_among qs q ≡ true)

@@ -35,6 +35,10 @@ qubit_number (qubit.Formal n) = None
 abbrev pub is_number : Qubit → Bool
 is_number q = is_some (qubit_number q)
 
+abbrev pub is_number_if_any : Option Qubit → Bool
+is_number_if_any None = true
+is_number_if_any (Some q) = is_number q
+
 -- without modifiers and parameters
 abbrev pub is_built_gate : Gate → Bool
 is_built_gate g = nat_eq (length g.modifiers) 0 && (nat_eq (length g.parameters) 0 && (is_some (standard_gate g.name.text) && list_all is_number g.qubits))
@@ -47,7 +51,7 @@ is_built_operand (operand.Formula f) = false
 abbrev pub is_built : Statement → Bool
 is_built (statement.Gate g) = is_built_gate g
 is_built (statement.Measure q a) = is_number q
-is_built (statement.Reset q) = false
+is_built (statement.Reset q) = is_number_if_any q
 is_built statement.Wait = true
 is_built statement.Nop = true
 is_built statement.Halt = true

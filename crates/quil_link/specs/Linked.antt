@@ -61,7 +61,7 @@ abbrev pub linked_comparison : Regions → ℕ → Comparison → Reference → 
 linked_comparison l line o r a x =
     and_then (cell_at l r) (λ c. and_then (cell_at l a) (λ d. and_then (term_at l line x) (λ t. typed line (typed_comparison o c d t))))
 
--- ---- gates and measurement
+-- ---- gates, measurement and RESET
 
 -- the number of a qubit; other qubits are refused before
 abbrev pub numbered_qubit : ℕ → Qubit → Result ℕ LoadFault
@@ -105,12 +105,17 @@ target_bit l line (Some a) = and_then (cell_at l a) (outcome_cell line)
 abbrev pub linked_measure : Regions → ℕ → Qubit → Option Reference → Result Instruction LoadFault
 linked_measure l line q a = and_then (target_bit l line a) (λ b. and_then (numbered_qubit line q) (λ n. Ok (instruction.Measure n b)))
 
+-- RESET of a qubit, or of all
+abbrev pub linked_reset : ℕ → Option Qubit → Result Instruction LoadFault
+linked_reset line None = Ok (instruction.Reset None)
+linked_reset line (Some q) = and_then (numbered_qubit line q) (λ n. Ok (instruction.Reset (Some n)))
+
 -- ---- lines
 
 abbrev pub linked_statement : Regions → ℕ → Statement → Result Instruction LoadFault
 linked_statement l line (statement.Gate g) = linked_gate line g
 linked_statement l line (statement.Measure q a) = linked_measure l line q a
-linked_statement l line (statement.Reset q) = Err (fault.NotBuilt line)
+linked_statement l line (statement.Reset q) = linked_reset line q
 linked_statement l line statement.Wait = Ok instruction.Wait
 linked_statement l line statement.Nop = Ok instruction.Nop
 linked_statement l line statement.Halt = Ok instruction.Halt

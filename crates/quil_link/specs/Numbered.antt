@@ -1,5 +1,5 @@
 -- The qubits of a program: those that some line uses, numbered in rising order.
-use Rattle.std.specs.Prelude.{ℕ, nat_eq, nat_lt, ◌==◌, Bool, false, ◌||◌, List, map, filter, length, position, unwrap_or, Result, Ok, Err, if◌then◌else◌}
+use Rattle.std.specs.Prelude.{ℕ, nat_eq, nat_lt, ◌==◌, Bool, false, ◌||◌, List, map, filter, length, position, unwrap_or, Some, None, Result, Ok, Err, if◌then◌else◌}
 use Rattle.std.specs.List.{list_any, range_with_len}
 use Rattle.quil_memory.specs.Layout.{Regions}
 use Rattle.quil_code.specs.declared.instruction.Instruction.{Instruction}
@@ -19,6 +19,8 @@ is_on q (instruction.X p) = nat_eq p q
 is_on q (instruction.H p) = nat_eq p q
 is_on q (instruction.Cnot c t) = nat_eq c q || nat_eq t q
 is_on q (instruction.Measure p b) = nat_eq p q
+is_on q (instruction.Reset None) = false
+is_on q (instruction.Reset (Some p)) = nat_eq p q
 is_on q (instruction.Classic c) = false
 
 abbrev pub is_used : List Line → ℕ → Bool
@@ -43,6 +45,8 @@ renumbered qs (instruction.X q) = instruction.X (qubit_place qs q)
 renumbered qs (instruction.H q) = instruction.H (qubit_place qs q)
 renumbered qs (instruction.Cnot c t) = instruction.Cnot (qubit_place qs c) (qubit_place qs t)
 renumbered qs (instruction.Measure q b) = instruction.Measure (qubit_place qs q) b
+renumbered qs (instruction.Reset None) = instruction.Reset None
+renumbered qs (instruction.Reset (Some q)) = instruction.Reset (Some (qubit_place qs q))
 renumbered qs (instruction.Classic c) = instruction.Classic c
 
 abbrev pub numbered_line : List ℕ → Line → Line

@@ -4,7 +4,7 @@ ghost use Rattle.std.specs.Prelude.{◌≡◌};
 ghost use Rattle.std.specs.Result.{result_err};
 ghost use Rattle.std.specs.List.{list_all};
 ghost use Rattle.quil_link.specs.Passes.{first_of};
-ghost use Rattle.quil_link.specs.Built.{standard_gate, qubit_number, is_number, is_built_gate, is_built_operand, is_built, not_built};
+ghost use Rattle.quil_link.specs.Built.{standard_gate, qubit_number, is_number, is_number_if_any, is_built_gate, is_built_operand, is_built, not_built};
 
 use quil_code::LoadFault;
 use quil_tree::{Gate, Item, Operand, Qubit, Statement};
@@ -57,6 +57,15 @@ fn is_number(qubit: &Qubit) -> bool
     qubit_number(qubit).is_some()
 }
 
+fn is_number_if_any(qubit: &Option<Qubit>) -> bool
+    ensures { result ≡ is_number_if_any qubit.now }
+{
+    match qubit {
+        Some(qubit) => is_number(qubit),
+        None => true,
+    }
+}
+
 fn are_numbers(qubits: &[Qubit]) -> bool
     ensures { result ≡ list_all is_number qubits.now }
 {
@@ -87,8 +96,8 @@ fn is_built(statement: &Statement) -> bool
     match statement {
         Statement::Gate(gate) => is_built_gate(gate),
         Statement::Measure(qubit, _) => is_number(qubit),
-        Statement::Reset(_)
-        | Statement::Label(_)
+        Statement::Reset(qubit) => is_number_if_any(qubit),
+        Statement::Label(_)
         | Statement::Jump(_)
         | Statement::JumpWhen(_, _)
         | Statement::JumpUnless(_, _) => false,

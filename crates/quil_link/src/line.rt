@@ -128,6 +128,16 @@ fn linked_measure(
     Ok(Instruction::Measure(number, bit))
 }
 
+fn linked_reset(line: u32, qubit: &Option<Qubit>) -> Result<Instruction, LoadFault>
+    ensures value { result ≡ linked.linked_reset line qubit.now }
+    ensures fits { (bits : ℕ) → IfOk result (λ i. IsLinked i bits) }
+{
+    match qubit {
+        Some(qubit) => Ok(Instruction::Reset(Some(numbered_qubit(line, qubit)?))),
+        None => Ok(Instruction::Reset(None)),
+    }
+}
+
 fn linked_not(
     alloc: Global,
     layout: &Layout,
@@ -312,12 +322,12 @@ fn linked_statement(
     match statement {
         Statement::Gate(gate) => linked_gate(line, gate),
         Statement::Measure(qubit, target) => linked_measure(alloc, layout, line, qubit, target),
+        Statement::Reset(qubit) => linked_reset(line, qubit),
         Statement::Wait => Ok(Instruction::Wait),
         Statement::Nop => Ok(Instruction::Nop),
         Statement::Halt => Ok(Instruction::Halt),
         Statement::Pragma(_, _) => Ok(Instruction::Passive),
-        Statement::Reset(_)
-        | Statement::Label(_)
+        Statement::Label(_)
         | Statement::Jump(_)
         | Statement::JumpWhen(_, _)
         | Statement::JumpUnless(_, _) => Err(LoadFault::NotBuilt { line }),

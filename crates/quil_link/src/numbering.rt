@@ -37,7 +37,10 @@ fn mark_instruction(marks: &mut [bool], instruction: Instruction)
         → slice_index_or marks.new q false ≡ (slice_index_or marks.old q false || is_on q instruction) }
 {
     match instruction {
-        Instruction::X(qubit) | Instruction::H(qubit) | Instruction::Measure(qubit, _) => {
+        Instruction::X(qubit)
+        | Instruction::H(qubit)
+        | Instruction::Measure(qubit, _)
+        | Instruction::Reset(Some(qubit)) => {
             mark(marks, qubit);
         }
         Instruction::Cnot(control, target) => {
@@ -48,6 +51,7 @@ fn mark_instruction(marks: &mut [bool], instruction: Instruction)
         | Instruction::Nop
         | Instruction::Wait
         | Instruction::Halt
+        | Instruction::Reset(None)
         | Instruction::Classic(_) => {}
     }
 }
@@ -124,6 +128,8 @@ fn renumbered(qubits: &[u32], instruction: Instruction) -> Instruction
             Instruction::Cnot(qubit_place(qubits, control), qubit_place(qubits, target))
         }
         Instruction::Measure(qubit, bit) => Instruction::Measure(qubit_place(qubits, qubit), bit),
+        Instruction::Reset(Some(qubit)) => Instruction::Reset(Some(qubit_place(qubits, qubit))),
+        Instruction::Reset(None) => Instruction::Reset(None),
         Instruction::Passive => Instruction::Passive,
         Instruction::Nop => Instruction::Nop,
         Instruction::Wait => Instruction::Wait,

@@ -1,7 +1,8 @@
 //! Programs and refusals of texts, as the rules give them by hand. In a row `⏎` stands for a line feed.
 
 use crate::load;
-use quil_code::Code;
+use quil_code::{Code, LoadFault};
+use quil_memory::Layout;
 use std::alloc::Global;
 use std::test::*;
 
@@ -16,17 +17,31 @@ fn code_text(alloc: Global, code: &Code, from: usize) -> Said {
     Ok(said)
 }
 
+fn refusal_text(alloc: Global, fault: &LoadFault) -> Said {
+    let mut said = Vec::new(alloc);
+    fault.diagnostic().push_text(alloc, &mut said)?;
+    let said = str::from_utf8(&said).unwrap_or("?");
+    Ok(format!(in alloc; "{said}")?)
+}
+
 // The program of a text without its first lines, or the text of the refusal.
 fn told(alloc: Global, text: &str, from: usize) -> Said {
     match load(alloc, text.as_bytes()) {
         Ok(code) => code_text(alloc, &code, from),
-        Err(fault) => {
-            let mut said = Vec::new(alloc);
-            fault.diagnostic().push_text(alloc, &mut said)?;
-            let said = str::from_utf8(&said).unwrap_or("?");
-            Ok(format!(in alloc; "{said}")?)
-        }
+        Err(fault) => refusal_text(alloc, &fault),
     }
+}
+
+// The first bits of the regions, and the bits of all.
+fn layout_text(alloc: Global, layout: &Layout) -> Said {
+    let mut said = String::new(alloc);
+    for region in 0..layout.count() {
+        let word = str::from_utf8(layout.name(region).as_bytes()).unwrap_or("?");
+        let first = layout.first(region);
+        said.push_str(&format!(in alloc; "{word} {first}, ")?)?;
+    }
+    said.push_str(&format!(in alloc; "{} bits", layout.bits())?)?;
+    Ok(said)
 }
 
 // The rows whose texts, behind a front, say something else; a front has so many lines of a program.
@@ -47,6 +62,65 @@ fn misses(alloc: Global, front: &str, from: usize, table: &str) -> Said {
 }
 
 #[test]
+fn regions_are_laid_out_so(rt: HostRuntime) -> Result<(), Fail> {
+    let alloc = rt.alloc();
+    let table = "DECLARE a BIT => a 0, 1 bits
+DECLARE a BIT[3]⏎DECLARE b OCTET[2]⏎DECLARE c INTEGER⏎DECLARE d REAL => a 0, b 3, c 19, d 83, 147 bits
+DECLARE a BIT⏎DECLARE a BIT => 9 Redeclared word=a
+DECLARE a BIT⏎DECLARE A BIT => a 0, A 1, 2 bits
+DECLARE a BIT SHARING b => 10 UnknownRegion word=b
+DECLARE a BIT SHARING a => 10 UnknownRegion word=a
+DECLARE a BIT SHARING b⏎DECLARE b BIT => 10 UnknownRegion word=b
+DECLARE a BIT[8]⏎DECLARE b BIT[8] SHARING a => a 0, b 0, 8 bits
+DECLARE a BIT[8]⏎DECLARE b BIT[9] SHARING a => 11 ShareOutside word=b
+DECLARE a BIT[8]⏎DECLARE b BIT[7] SHARING a OFFSET 1 BIT => a 0, b 1, 8 bits
+DECLARE a BIT[8]⏎DECLARE b BIT[8] SHARING a OFFSET 1 BIT => 11 ShareOutside word=b
+DECLARE a BIT[8]⏎DECLARE b OCTET SHARING a => a 0, b 0, 8 bits
+DECLARE a BIT[9]⏎DECLARE b OCTET SHARING a OFFSET 1 BIT => 12 Misaligned word=b
+DECLARE a BIT⏎DECLARE b OCTET[2]⏎DECLARE c OCTET SHARING b OFFSET 1 OCTET => a 0, b 1, c 9, 17 bits
+DECLARE a BIT⏎DECLARE b BIT[80]⏎DECLARE c OCTET SHARING b OFFSET 7 BIT => 12 Misaligned word=c
+DECLARE a INTEGER[4]⏎DECLARE b BIT[5] SHARING a OFFSET 1 REAL 2 OCTET 3 BIT => a 0, b 83, 256 bits
+DECLARE a BIT[7]⏎DECLARE b INTEGER[4]⏎DECLARE c OCTET[9] SHARING b OFFSET 1 INTEGER⏎DECLARE d OCTET SHARING c OFFSET 8 BIT => a 0, b 7, c 71, d 79, 263 bits
+DECLARE a BIT[7]⏎DECLARE b INTEGER[4]⏎DECLARE c BIT[72] SHARING b OFFSET 1 INTEGER⏎DECLARE d INTEGER SHARING c OFFSET 8 BIT => 12 Misaligned word=d
+DECLARE a INTEGER[4]⏎DECLARE b OCTET[9] SHARING a OFFSET 1 INTEGER⏎DECLARE c INTEGER SHARING b OFFSET 1 OCTET => 12 Misaligned word=c
+DECLARE a INTEGER[4]⏎DECLARE b BIT[63] SHARING a OFFSET 1 BIT⏎DECLARE c BIT[64] SHARING b => 11 ShareOutside word=c
+DECLARE a BIT[64]⏎DECLARE b BIT[64] SHARING a OFFSET 0 BIT 0 REAL => a 0, b 0, 64 bits
+DECLARE a BIT[64]⏎DECLARE b BIT SHARING a OFFSET 18446744073709551615 REAL => 11 ShareOutside word=b
+DECLARE a BIT[64]⏎DECLARE b BIT SHARING a OFFSET 18446744073709551615 REAL 18446744073709551615 REAL 1 BIT => 11 ShareOutside word=b
+DECLARE a BIT[64]⏎DECLARE b REAL[18446744073709551615] SHARING a => 11 ShareOutside word=b
+DECLARE a BIT[64]⏎DECLARE a BIT SHARING b => 9 Redeclared word=a
+DECLARE a BIT[64]⏎DECLARE a BIT[65] SHARING a => 9 Redeclared word=a
+DECLARE a BIT[64]⏎DECLARE a OCTET SHARING a OFFSET 1 BIT => 9 Redeclared word=a
+DECLARE a BIT[64]⏎DECLARE a REAL[1024] => 9 Redeclared word=a
+DECLARE a BIT[64]⏎DECLARE b BIT[65] SHARING c => 10 UnknownRegion word=c
+DECLARE a BIT[64]⏎DECLARE b OCTET SHARING c OFFSET 1 BIT => 10 UnknownRegion word=c
+DECLARE a BIT[64]⏎DECLARE b OCTET[8] SHARING a OFFSET 1 BIT => 11 ShareOutside word=b
+DECLARE a BIT[64]⏎DECLARE b BIT[65473] => 13 MemoryTooLarge bits=65537
+DECLARE a BIT[65536] => a 0, 65536 bits
+DECLARE a BIT[65537] => 13 MemoryTooLarge bits=65537
+DECLARE a REAL[1024] => a 0, 65536 bits
+DECLARE a REAL[1024]⏎DECLARE b REAL[1024] SHARING a⏎DECLARE c BIT[65536] SHARING b => a 0, b 0, c 0, 65536 bits
+DECLARE a REAL[1024]⏎DECLARE b BIT => 13 MemoryTooLarge bits=65537
+DECLARE a REAL[1025] => 13 MemoryTooLarge bits=65600
+DECLARE a BIT[18446744073709551615] => 13 MemoryTooLarge bits=18446744073709551615
+DECLARE a REAL[18446744073709551615] => 13 MemoryTooLarge bits=18446744073709551615
+DECLARE a BIT[2]⏎DECLARE b BIT[18446744073709551614] => 13 MemoryTooLarge bits=18446744073709551615
+DECLARE a BIT⏎DECLARE b BIT[18446744073709551614] => 13 MemoryTooLarge bits=18446744073709551615
+DECLARE a BIT⏎DECLARE b BIT[18446744073709551613] => 13 MemoryTooLarge bits=18446744073709551614
+";
+    for row in table.lines() {
+        let (text, want) = row.split_once(" => ").unwrap_or(("", ""));
+        let text = text.replace(alloc, "⏎", "\n")?;
+        let said = match load(alloc, text.as_bytes()) {
+            Ok(code) => layout_text(alloc, code.layout())?,
+            Err(fault) => refusal_text(alloc, &fault)?,
+        };
+        assert_eq!(rt; said.as_str(), want, "at {row}");
+    }
+    Ok(())
+}
+
+#[test]
 fn texts_are_these_programs(rt: HostRuntime) -> Result<(), Fail> {
     let table = "
  => []
@@ -55,7 +129,7 @@ X 37⏎H 31⏎CNOT 30 37⏎MEASURE 31 => [30, 31, 37] 1 X(2); 2 H(1); 3 Cnot(0, 
 X 65535⏎X 0 => [0, 65535] 1 X(1); 2 X(0);
 CNOT 9 4⏎CNOT 4 9 => [4, 9] 1 Cnot(1, 0); 2 Cnot(0, 1);
 X 0;X 1;X 2;X 3;X 4;X 5;X 6;X 7;X 8;X 9;X 10;X 11;X 12;X 13;X 14;X 16 => [0, 1, 2, 3, 4, 5, 6, 7, 8, 9, 10, 11, 12, 13, 14, 16] 1 X(0); 1 X(1); 1 X(2); 1 X(3); 1 X(4); 1 X(5); 1 X(6); 1 X(7); 1 X(8); 1 X(9); 1 X(10); 1 X(11); 1 X(12); 1 X(13); 1 X(14); 1 X(15);
-X 0;X 1;X 2;X 3;X 4;X 5;X 6;X 7;X 8;X 9;X 10;X 11;X 12;X 13;X 14;X 15;MEASURE 16 => 27 TooManyQubits count=17
+X 0;X 1;X 2;X 3;X 4;X 5;X 6;X 7;X 8;X 9;X 10;X 11;X 12;X 13;X 14;RESET 15;RESET;MEASURE 16 => 27 TooManyQubits count=17
 X 0;X 1;X 2;X 3;X 4;X 5;X 6;X 7;X 8;X 9;X 10;X 11;X 12;X 13;X 14;CNOT 15 16;CNOT 17 17 => 19 RepeatedQubit line=1
 DECLARE a BIT[9]⏎DECLARE b BIT[2]⏎MEASURE 3 b[1] => [3] 1 Passive; 2 Passive; 3 Measure(0, Some(Cell { first: 10 }));
 MOVE b 1⏎DECLARE a INTEGER⏎DECLARE b BIT[4] SHARING a OFFSET 1 OCTET 2 BIT => [] 1 Classic(Move { kind: Bit, target: Cell { first: 10 }, source: Literal(1) }); 2 Passive; 3 Passive;
@@ -69,11 +143,11 @@ DECLARE a BIT⏎DECLARE b INTEGER[1024] => 13 MemoryTooLarge bits=65537
 MOVE a $ => 5 BadToken column=8 line=1
 X 65536 => 4 NumberTooWide column=3 line=1
 OR a b => 8 LeftOut line=1 word=OR
-RESET⏎MOVE a ) => 6 Unexpected column=8 line=2
-DECLARE a BIT⏎DECLARE a BIT⏎RESET => 57 NotBuilt line=3
-RESET⏎DECLARE a BIT⏎DECLARE a BIT => 57 NotBuilt line=1
-X⏎RESET => 57 NotBuilt line=2
-RESET 0⏎⏎LABEL @a => 57 NotBuilt line=1
+LABEL @a⏎MOVE a ) => 6 Unexpected column=8 line=2
+DECLARE a BIT⏎DECLARE a BIT⏎LABEL @a => 57 NotBuilt line=3
+LABEL @a⏎DECLARE a BIT⏎DECLARE a BIT => 57 NotBuilt line=1
+X⏎LABEL @a => 57 NotBuilt line=2
+RESET 0⏎⏎LABEL @a => 57 NotBuilt line=3
 DECLARE a BIT⏎MOVE a 2⏎MOVE a pi => 57 NotBuilt line=3
 X⏎DECLARE a BIT⏎DECLARE a BIT => 9 Redeclared word=a
 DECLARE a BIT⏎DECLARE a BIT⏎X => 9 Redeclared word=a
@@ -196,7 +270,8 @@ X => 18 Arity line=2
 H 0 0 => 18 Arity line=2
 CNOT 0 => 18 Arity line=2
 CNOT 0 1 2 => 18 Arity line=2
-RESET => 57 NotBuilt line=2
+RESET => [] 2 Reset(None);
+X 4⏎RESET 5⏎RESET 3 => [3, 4, 5] 2 X(1); 3 Reset(Some(2)); 4 Reset(Some(0));
 LABEL @a => 57 NotBuilt line=2
 JUMP @a => 57 NotBuilt line=2
 JUMP-WHEN @a b => 57 NotBuilt line=2

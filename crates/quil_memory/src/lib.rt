@@ -28,5 +28,3 @@ pub use name::Name;
 pub use region::Region;
 pub use regions::{Layout, MOST_BITS};
 
-#[cfg(test)]
-mod tests;

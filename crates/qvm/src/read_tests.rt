@@ -56,7 +56,7 @@ X 0⏎X 0 1 => 1 error: 18 Arity line=2⏎
 CNOT 3 3 => 1 error: 19 RepeatedQubit line=1⏎
 DECLARE theta REAL⏎MOVE theta 1⏎ => 1 error: 26 TypeClash line=2⏎
 X 0;X 1;X 2;X 3;X 4;X 5;X 6;X 7;X 8;X 9;X 10;X 11;X 12;X 13;X 14;X 15;X 16 => 1 error: 27 TooManyQubits count=17⏎
-RESET => 1 error: 57 NotBuilt line=1⏎
+LABEL @a => 1 error: 57 NotBuilt line=1⏎
 ⏎ ⏎Y 0 => 1 error: 57 NotBuilt line=3⏎
 DECLARE ro BIT⏎⏎HALT⏎LABEL @a⏎ => 1 error: 57 NotBuilt line=4⏎
 X 0⏎⏎DEFGATE G:⏎ 1, 0⏎ 0, 1⏎X 16 => 1 error: 57 NotBuilt line=3⏎

@@ -9,7 +9,7 @@ ghost use Rattle.qvm.specs.Ends.{NextWord, EndsAs, end_seen};
 use quil_code::{Code, Fault, Quantum, Stepped};
 use quil_memory::Memory;
 use qvm_ring::Ray;
-use qvm_step::{draw, needs_word, step, word_matters_at_measure_alone};
+use qvm_step::{draw, needs_word, step, word_matters_at_measurements_alone};
 use std::alloc::{AllocError, Global};
 
 // The words of a run are those of the seed that is all zeros.
@@ -68,7 +68,7 @@ fn advance(alloc: Global, code: &Code, machine: &mut Quantum, draws: &mut u64) -
     ensures fits { FitsProgram code.now machine.new }
 {
     let word = next_word(code, machine, draws);
-    word_matters_at_measure_alone();
+    word_matters_at_measurements_alone();
     step(alloc, code, machine, word)
 }
 

@@ -19,6 +19,7 @@ classic_in (Some l) = elim l.instruction [
   | instruction.H q ↦ None
   | instruction.Cnot control target ↦ None
   | instruction.Measure q cell ↦ None
+  | instruction.Reset q ↦ None
   | instruction.Classic c ↦ Some (l.number, c)
 ]
 

@@ -1,4 +1,3 @@
-pub mod Descent
 pub mod Examples
 pub mod Places
 pub mod Steps

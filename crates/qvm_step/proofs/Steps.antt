@@ -3,14 +3,13 @@ use Rattle.std.proofs.Common.{◌≡◌, ◌≢◌, refl, sym, subst, ℕ, zero,
 use Rattle.std.proofs.lemmas.Option.{slice_get_within, get_or_from_slice_get}
 use Rattle.std.specs.Prelude.{Option, Some, None, Ok, Err, slice_get, if◌then◌else◌}
 use Rattle.std.specs.List.{AllByRecursion}
-use Rattle.qvm_ring.specs.Ray.{Ray, IsFiniteMap}
-use Rattle.qvm_ring.specs.Measure.{outcome, kept}
-use Rattle.qvm_ring.specs.NormViews.{bit_number}
+use Rattle.qvm_ring.specs.Ray.{Ray}
+use Rattle.qvm_ring.specs.Measure.{outcome}
 use Rattle.quil_memory.specs.declared.cell_type.CellType.TheVariants.{Bit}
 use Rattle.quil_code.specs.declared.classic.Cell.{Cell}
 use Rattle.quil_code.specs.declared.classic.Classic.{Classic as ClassicInstruction}
 use Rattle.quil_code.specs.declared.instruction.Instruction.{Instruction}
-use Rattle.quil_code.specs.declared.instruction.Instruction.TheVariants.{Passive, Nop, Wait, Halt, X, H, Cnot, Measure, Classic}
+use Rattle.quil_code.specs.declared.instruction.Instruction.TheVariants.{Passive, Nop, Wait, Halt, X, H, Cnot, Measure, Reset, Classic}
 use Rattle.quil_code.specs.declared.instruction.Line.{Line}
 use Rattle.quil_code.specs.declared.quantum.Quantum.{Quantum}
 use Rattle.quil_code.specs.declared.quantum.Stepped.{Stepped}
@@ -33,6 +32,8 @@ instruction_without_word (X q) line next word other m h = refl
 instruction_without_word (H q) line next word other m h = refl
 instruction_without_word (Cnot c t) line next word other m h = refl
 instruction_without_word (Measure q c) line next word other m h = absurd (cc)
+instruction_without_word (Reset None) line next word other m h = refl
+instruction_without_word (Reset (Some q)) line next word other m h = absurd (cc)
 instruction_without_word (Classic c) line next word other m h = refl
 
 line_without_word : (l : Option Line) (next word other : ℕ) (m : Quantum) → line_needs_word l ≡ false → after_line l next word m ≡ after_line l next other m
@@ -42,15 +43,6 @@ line_without_word (Some l) next word other m h = instruction_without_word l.inst
 pub step_without_word : (program : Program) (m : Quantum) (word other : ℕ) → needs_word program m ≡ false → step program m word ≡ step program m other
 unfolding step needs_word
 step_without_word program m word other h = line_without_word (slice_get program.lines (here program.lines m.at)) (here program.lines m.at + 1) word other m h
-
--- ---- outcomes
-
--- the part that an outcome keeps, from the two laws on outcomes
-pub outcome_keeps : (ray : Ray) (high q word : ℕ) (b : Bool) → IsFiniteMap 0 high ray → ray ≢ [] → word < 2 ^ 32 → b ≡ outcome ray q word →
-    ((r : Ray) (h k w : ℕ) → IsFiniteMap 0 h r → r ≢ [] → outcome r k w ≡ true → kept r k 1 ≢ []) →
-    ((r : Ray) (h k w : ℕ) → IsFiniteMap 0 h r → r ≢ [] → w < 2 ^ 32 → outcome r k w ≡ false → kept r k 0 ≢ []) → kept ray q (bit_number b) ≢ []
-outcome_keeps ray high q word true m s w e for_one for_zero = for_one ray high q word m s (sym e)
-outcome_keeps ray high q word false m s w e for_one for_zero = for_zero ray high q word m s w (sym e)
 
 -- ---- lines that fit
 
@@ -105,6 +97,8 @@ instruction_goes (H q) p m line place word f h k = gate_fits _ p m _ _ place h k
 instruction_goes (Cnot c t) p m line place word f h k = gate_fits _ p m _ _ place h k
 instruction_goes (Measure q c) p m line place word f h k =
     record { qubits = h.qubits; memory = rw (outcome_length c (outcome m.ray.amplitudes q word) m.memory (subst (OutcomeFits c) (sym h.memory) f.1)) h.memory; place = omega arith }
+instruction_goes (Reset None) p m line place word f h k = record { qubits = h.qubits; memory = h.memory; place = omega arith }
+instruction_goes (Reset (Some q)) p m line place word f h k = record { qubits = h.qubits; memory = h.memory; place = omega arith }
 instruction_goes (Classic c) p m line place word f h k = effect_fits _ c p m line place refl (subst (ClassicFits c) (sym h.memory) f) h k
 
 answer_fits : (s : Stepped) (p : Program) (next : Next) (old new : Quantum) → NextFits p next → FitsProgram p old → Answers s next old new → FitsProgram p new

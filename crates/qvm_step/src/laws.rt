@@ -7,7 +7,7 @@ ghost use Rattle.quil_memory.specs.declared.cell_type.CellType.TheVariants.{Bit}
 ghost use Rattle.quil_code.specs.declared.classic.Classic.TheVariants.{Move, Convert};
 ghost use Rattle.quil_code.specs.declared.classic.Bitwise.TheVariants as bitwise;
 ghost use Rattle.quil_code.specs.declared.classic.Source.TheVariants.{Literal};
-ghost use Rattle.quil_code.specs.declared.instruction.Instruction.TheVariants.{Passive, Nop, Wait, Halt, X, H, Cnot, Measure, Classic};
+ghost use Rattle.quil_code.specs.declared.instruction.Instruction.TheVariants.{Passive, Nop, Wait, Halt, X, H, Cnot, Measure, Reset, Classic};
 ghost use Rattle.quil_code.specs.declared.quantum.Quantum.{Quantum};
 ghost use Rattle.quil_code.specs.declared.fault.Fault.TheVariants.{AmplitudeLimit, Overflow};
 ghost use Rattle.quil_code.specs.Program.{Program};
@@ -18,7 +18,7 @@ ghost use Rattle.qvm_step.specs.Examples.{machine, no_bits, two_as_octet, heavy_
 
 /// A step that needs no word doesn't depend on it.
 #[tactic(auto, using(crate::proofs::Steps::step_without_word))]
-pub fn word_matters_at_measure_alone()
+pub fn word_matters_at_measurements_alone()
     ensures { (program : Program) (m : Quantum) (word other : ℕ) → needs_word program m ≡ false → step program m word ≡ step program m other }
 {}
 
@@ -30,6 +30,10 @@ pub fn steps_by_hand()
     // A word below 2^31 gives 1 on a Bell pair, and the other qubit is then 1 too.
     ensures measure_one { after_instruction (Measure 0 (Some (cell 1))) 7 4 2147483647 (machine bell_pair no_bits 3) ≡ Goes (machine ((3, unit) ∷ []) (false ∷ true ∷ []) 4) }
     ensures measure_zero { after_instruction (Measure 1 None) 7 4 2147483648 (machine bell_pair no_bits 3) ≡ Goes (machine ((0, unit) ∷ []) no_bits 4) }
+    ensures reset { after_instruction (Reset None) 7 4 0 (machine bell_pair no_bits 3) ≡ Goes (machine ((0, unit) ∷ []) no_bits 4) }
+    // The same words: the outcome of 1 is turned back to 0, and the other qubit stays 1.
+    ensures reset_one { after_instruction (Reset (Some 0)) 7 4 2147483647 (machine bell_pair no_bits 3) ≡ Goes (machine ((2, unit) ∷ []) no_bits 4) }
+    ensures reset_zero { after_instruction (Reset (Some 0)) 7 4 2147483648 (machine bell_pair no_bits 3) ≡ Goes (machine ((0, unit) ∷ []) no_bits 4) }
     ensures halt { after_instruction Halt 7 4 0 (machine bell_pair no_bits 3) ≡ Halts }
     ensures wait { after_instruction Wait 7 4 0 (machine bell_pair no_bits 3) ≡ Waits (machine bell_pair no_bits 4) }
     ensures nop { after_instruction Nop 7 4 0 (machine bell_pair no_bits 3) ≡ Goes (machine bell_pair no_bits 4) }

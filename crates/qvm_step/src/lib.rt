@@ -3,7 +3,6 @@
 //! What one step does stands in `quil_code`'s `specs/Step.antt`, and what a whole run does in `specs/Run.antt`.
 #![tactic(auto)]
 
-mod comparison;
 mod laws;
 mod machine;
 mod measure;
@@ -12,7 +11,7 @@ mod place;
 mod tests;
 mod words;
 
-pub use laws::{places_by_hand, runs_by_hand, steps_by_hand, word_matters_at_measure_alone};
+pub use laws::{places_by_hand, runs_by_hand, steps_by_hand, word_matters_at_measurements_alone};
 pub use machine::{restart, step};
 pub use place::needs_word;
 pub use quil_code::{Fault, Quantum, Stepped};

@@ -7,7 +7,7 @@ ghost use Rattle.quil_code.specs.Classic.{effect};
 ghost use Rattle.quil_code.specs.Step.{Answers, FitsProgram, step, after_gate, after_effect, after_instruction, makes_ray, may_want_memory};
 ghost use Rattle.qvm_classic.specs.Places.{classic_at};
 
-use crate::measure::measure_step;
+use crate::measure::{measure, reset, reset_qubit};
 use crate::place::{here, line_at};
 use quil_code::{Code, Fault, Instruction, Line, Quantum, Stepped};
 use qvm_classic::classic;
@@ -114,7 +114,18 @@ fn line_step(
         Instruction::Cnot(control, target) => cnot_step(
             alloc, quantum, control, target, number, next,
         ),
-        Instruction::Measure(qubit, cell) => measure_step(alloc, quantum, qubit, cell, next, word),
+        Instruction::Measure(qubit, cell) => {
+            measure(quantum, qubit, cell, next, word);
+            Stepped::Went
+        }
+        Instruction::Reset(None) => {
+            reset(quantum, next);
+            Stepped::Went
+        }
+        Instruction::Reset(Some(qubit)) => {
+            reset_qubit(quantum, qubit, next, word);
+            Stepped::Went
+        }
         Instruction::Classic(_) => classic_step(code, quantum, place, next),
         Instruction::Passive | Instruction::Nop => {
             quantum.at = next;
@@ -128,12 +139,12 @@ fn line_step(
     }
 }
 
-/// One step, by the word where it is a measurement.
+/// One step, by the word where it is a measurement or RESET of a qubit.
 ///
 /// It is the step of the first line from the machine's place on that is no declaration or pragma; past the last the machine halts.
 /// Faults are those of the line: AmplitudeLimit exactly where the reduced product of its gate weighs more than 2^94, and those of a
 /// classical instruction. After a fault, at a halt and at want of memory the machine is as it was. Want of memory is answered at gates
-/// and measurements alone.
+/// alone.
 #[tactic(auto, unfolding(quil_code::specs::Step::step, quil_code::specs::Step::may_want_memory))]
 pub fn step(alloc: Global, code: &Code, quantum: &mut Quantum, word: u32) -> Stepped
     requires { FitsProgram code.now quantum.old }

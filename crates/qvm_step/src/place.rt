@@ -18,6 +18,7 @@ fn is_passive(line: Line) -> bool
         | Instruction::H(_)
         | Instruction::Cnot(_, _)
         | Instruction::Measure(_, _)
+        | Instruction::Reset(_)
         | Instruction::Classic(_) => false,
     }
 }
@@ -44,14 +45,14 @@ pub(crate) fn line_at(code: &Code, place: u32) -> Option<Line>
     code.lines().get(place as usize).copied()
 }
 
-/// Whether the next step uses its word: exactly at MEASURE.
+/// Whether the next step uses its word: exactly at MEASURE and at RESET of a qubit.
 #[tactic(auto, unfolding(quil_code::specs::Step::needs_word))]
 pub fn needs_word(code: &Code, quantum: &Quantum) -> bool
     requires { FitsProgram code.now quantum.now }
     ensures { result ≡ needs_word code.now quantum.now }
 {
     match line_at(code, here(code, quantum.at)) {
-        Some(line) => matches!(line.instruction, Instruction::Measure(_, _)),
+        Some(line) => matches!(line.instruction, Instruction::Measure(_, _) | Instruction::Reset(Some(_))),
         None => false,
     }
 }

@@ -58,6 +58,17 @@ fn measure(word: &str, place: &str) -> Option<Instruction>
     Some(Instruction::Measure(qubit, Some(cell)))
 }
 
+// `-` for all qubits.
+fn reset(word: &str) -> Option<Instruction>
+    ensures { IfSome result (λ i. Fits i 2 10) }
+{
+    if word == "-" {
+        return Some(Instruction::Reset(None));
+    }
+    let qubit = qubit(word)?;
+    Some(Instruction::Reset(Some(qubit)))
+}
+
 // Sets a BIT.
 fn set(word: &str) -> Option<Instruction>
     ensures { IfSome result (λ i. Fits i 2 10) }
@@ -99,6 +110,7 @@ fn instruction(text: &str) -> Option<Instruction>
         "h" => Some(Instruction::H(qubit(a)?)),
         "cnot" => cnot(a, b),
         "measure" => measure(a, b),
+        "reset" => reset(a),
         "set" => set(a),
         "narrow" => narrow(a),
         _ => None,
@@ -246,6 +258,9 @@ x 1, pass, measure 1 4, measure 0 4 : step 4294967295 0 => goes 1, goes 3, goes 
 h 0, h 0, set 5, measure 0 5 : step step step 0 => goes 1, goes 2, goes 3, goes 4 : 0 0 0 0 0 0 0 0 0 0
 set 1, set 3, pass, narrow 1 : step step step step => goes 1, goes 2, overflow of 14 2, overflow of 14 2 : 0 1 0 1 0 0 0 0 0 0
 set 2, narrow 1 : step step => goes 1, goes 2 : 0 1 1 0 0 0 0 0 0 0
+h 0, cnot 0 1, reset 0, measure 0 2, measure 1 3 : step step 2147483647 0 0 => goes 1, goes 2, goes 3, goes 4, goes 5 : 0 0 0 1 0 0 0 0 0 0
+h 0, cnot 0 1, reset 0, measure 0 2, measure 1 3 : step step 2147483648 0 0 => goes 1, goes 2, goes 3, goes 4, goes 5 : 0 0 0 0 0 0 0 0 0 0
+x 0, h 1, reset -, measure 0 2, measure 1 3, reset 1 : step step step 0 0 9 => goes 1, goes 2, goes 3, goes 4, goes 5, goes 6 : 0 0 0 0 0 0 0 0 0 0
 x 0, measure 0 0, wait : step 7 step restart step 7 => goes 1, goes 2, waits 3, goes 0, goes 1, goes 2 : 1 0 0 0 0 0 0 0 0 0
 measure 0 1, x 0, measure 0 1 : 0 step 0 restart 0 => goes 1, goes 2, goes 3, goes 0, goes 1 : 0 0 0 0 0 0 0 0 0 0
 ";
