@@ -52,7 +52,10 @@ pub fn needs_word(code: &Code, quantum: &Quantum) -> bool
     ensures { result ≡ needs_word code.now quantum.now }
 {
     match line_at(code, here(code, quantum.at)) {
-        Some(line) => matches!(line.instruction, Instruction::Measure(_, _) | Instruction::Reset(Some(_))),
+        Some(line) => matches!(
+            line.instruction,
+            Instruction::Measure(_, _) | Instruction::Reset(Some(_))
+        ),
         None => false,
     }
 }
