@@ -1,11 +1,7 @@
 -- Sums of ring elements.
-use Rattle.std.proofs.Common.{◌≡◌, ◌≢◌, refl, sym, ◌∙◌, ap, ℕ, zero, suc, ◌+◌, ◌<◌, ◌⊎◌, inl, inr, arith}
-use Rattle.std.specs.Prelude.{ℤ, ◌+ℤ◌}
-use Rattle.std.proofs.lemmas.Int.{ints}
-use borrow.Author.Differences.{same_in}
+use Rattle.std.proofs.Common.{◌≡◌, ◌≢◌, refl, sym, ◌∙◌, ap, ℕ, zero, suc, ◌<◌, ◌⊎◌, inl, inr, arith}
 use Rattle.qvm_ring.specs.Ring.{Element, nought, plus}
 use Rattle.qvm_ring.specs.Gate.{summed}
-use Rattle.qvm_ring.proofs.RingLemmas.{same_element}
 use Rattle.qvm_ring.proofs.Elements.{plus_nought, nought_plus}
 
 pub sum_same : (n : ℕ) (f g : ℕ → Element) → ((k : ℕ) → k < n → f k ≡ g k) → summed n f ≡ summed n g
