@@ -20,8 +20,8 @@ pub use amp::Amp;
 pub use examples::{gates_by_hand, measurements_by_hand, rays_by_hand};
 pub use fault::ApplyFault;
 pub use laws::{
-    flipped_rays, gates_are_unitary, norm_is_product_with_conjugate, quotient_times_root_two, reduced_rays,
-    sign_of_norms,
+    flipped_rays, gates_are_unitary, norm_is_product_with_conjugate, quotient_times_root_two,
+    reduced_rays, sign_of_norms,
 };
 pub use measure_laws::{norms_are_positive, outcomes_keep_some};
 pub use ray::Ray;

@@ -1,4 +1,4 @@
-use Rattle.std.proofs.Common.{sym, subst, ◌^◌, ◌<◌, List, arith}
+use Rattle.std.proofs.Common.{sym, subst, ◌^◌, List, arith}
 use Rattle.std.specs.Prelude.{All}
 use Rattle.qvm_ring.specs.declared.wide.Wide.{Wide}
 use Rattle.qvm_ring.specs.Ring.{Element}
