@@ -28,4 +28,3 @@ below_next count qubits f h k l = elim (order_of k qubits) [
   | inr (inl e) ↦ let p : 2 ^ k ≡ 2 ^ qubits = ap (λ (n : ℕ). 2 ^ n) e in omega arith
   | inr (inr m) ↦ absurd (omega arith)
 ]
-

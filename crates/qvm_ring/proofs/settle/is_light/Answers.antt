@@ -20,6 +20,6 @@ returns-then-total-gt-WEIGHT_LIMIT-clause-heavy c = λ _.
 pub loop-z-preserved : goal.loop-z-preserved
 loop-z-preserved c = (
   total_next (at (wide_elements_of c.args.list.now)) c.loop-z.z-index _ c.loop-z.total c.weight-total.result
-  (sym (at_map wide_element c.args.list.now c.loop-z.z-index _ c.loop-z-test.true)) c.loop-z.invariant.0 c.weight-total.ensures.value,
+      (sym (at_map wide_element c.args.list.now c.loop-z.z-index _ c.loop-z-test.true)) c.loop-z.invariant.0 c.weight-total.ensures.value,
   c.if-total-gt-WEIGHT_LIMIT.false,
 )

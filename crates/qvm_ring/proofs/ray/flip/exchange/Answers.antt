@@ -19,22 +19,21 @@ loop-basis-preserved c = elim c.if-bit_of-eq0.branch [
   | then-bit_of-eq0 w ↦
       let few : c.args.qubit < 64 = omega (arith, c.requires.one, c.requires.few) in
       let low : bit_of c.loop-basis.basis c.args.qubit ≡ 0 = sym c.bit_of.ensures ∙ w.if-bit_of-eq0.true in
-      let room = high_below c.args.qubits c.args.qubit c.loop-basis.basis c.requires.one low (omega (arith, c.loop-basis-test.true, c.requires.size)) in
-      (
+      let room = high_below c.args.qubits c.args.qubit c.loop-basis.basis c.requires.one low (omega (arith, c.loop-basis-test.true, c.requires.size)) in (
         omega (arith, c.if-bit_of-eq0.auto.list, c.loop-basis.invariant.0),
         subst (λ (l : List Amp). Exchanges c.args.qubit (elements_of c.args.list.now) (elements_of l) (c.loop-basis.basis + 1)) (sym w.list-is)
-        (Exchanges-swap c.args.qubit (elements_of c.args.list.now) c.loop-basis.list w.swap.new.self c.loop-basis.basis (c.loop-basis.basis + 1 * 2 ^ c.args.qubit % 2 ^ 64)
-        w.swap.ensures.len w.swap.ensures.by_index low
-        (ap (λ (n : ℕ). c.loop-basis.basis + n) (one_shl c.args.qubit 64 few) ∙ high_is c.args.qubit c.loop-basis.basis low)
-        (omega (arith, c.loop-basis-test.true, c.loop-basis.invariant.0))
-        (omega (arith, one_shl c.args.qubit 64 few, room, c.loop-basis.invariant.0, c.requires.size))
-        c.loop-basis.invariant.1),
+            (Exchanges-swap c.args.qubit (elements_of c.args.list.now) c.loop-basis.list w.swap.new.self c.loop-basis.basis (c.loop-basis.basis + 1 * 2 ^ c.args.qubit % 2 ^ 64)
+            w.swap.ensures.len w.swap.ensures.by_index low
+            (ap (λ (n : ℕ). c.loop-basis.basis + n) (one_shl c.args.qubit 64 few) ∙ high_is c.args.qubit c.loop-basis.basis low)
+            (omega (arith, c.loop-basis-test.true, c.loop-basis.invariant.0))
+            (omega (arith, one_shl c.args.qubit 64 few, room, c.loop-basis.invariant.0, c.requires.size))
+            c.loop-basis.invariant.1),
       )
   | else-bit_of-eq0 w ↦ (
-      omega (arith, c.if-bit_of-eq0.auto.list, c.loop-basis.invariant.0),
-      subst (λ (l : List Amp). Exchanges c.args.qubit (elements_of c.args.list.now) (elements_of l) (c.loop-basis.basis + 1)) (sym w.list-is)
-      (Exchanges-skip c.args.qubit (elements_of c.args.list.now) (elements_of c.loop-basis.list) c.loop-basis.basis (λ f. w.if-bit_of-eq0.false (c.bit_of.ensures ∙ f)) c.loop-basis.invariant.1),
-    )
+    omega (arith, c.if-bit_of-eq0.auto.list, c.loop-basis.invariant.0),
+    subst (λ (l : List Amp). Exchanges c.args.qubit (elements_of c.args.list.now) (elements_of l) (c.loop-basis.basis + 1)) (sym w.list-is)
+        (Exchanges-skip c.args.qubit (elements_of c.args.list.now) (elements_of c.loop-basis.list) c.loop-basis.basis (λ f. w.if-bit_of-eq0.false (c.bit_of.ensures ∙ f)) c.loop-basis.invariant.1),
+  )
 ]
 
 pub returns-clause-value : goal.returns-clause-value
