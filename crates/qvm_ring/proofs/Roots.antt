@@ -44,8 +44,8 @@ no_root_within (suc n) (suc x) y h e =
     let left : suc x ≡ (suc x - y) + ((suc x - y) + (y - (suc x - y))) = omega arith in
     let right : y ≡ (suc x - y) + (y - (suc x - y)) = omega arith in
     let f : (y - (suc x - y)) * (y - (suc x - y)) ≡ 2 * ((suc x - y) * (suc x - y)) =
-        smaller_pair (suc x - y) (y - (suc x - y))
-        (sym (ap (λ (k : ℕ). k * k) left) ∙ e ∙ ap (λ (k : ℕ). 2 * (k * k)) right) in
+    smaller_pair (suc x - y) (y - (suc x - y))
+    (sym (ap (λ (k : ℕ). k * k) left) ∙ e ∙ ap (λ (k : ℕ). 2 * (k * k)) right) in
     let z : y - (suc x - y) ≡ 0 = no_root_within n (y - (suc x - y)) (suc x - y) (omega arith) f in
     absurd (omega arith)
 

@@ -5,6 +5,7 @@ ghost use Rattle.qvm_ring.specs.Ray.{weight, weight_limit};
 ghost use Rattle.qvm_ring.specs.Views.{wide_elements_of, map_of};
 
 use crate::amp::Amp;
+use crate::fault::ApplyFault;
 use crate::ray::Ray;
 use crate::reduce::halve;
 use crate::settle::{is_light, narrowed};
@@ -132,6 +133,29 @@ fn on_qubit(
     ray_text(alloc, &ray.amplitudes)
 }
 
+// A gate, CNOT with this target.
+fn gate(alloc: Global, ray: &mut Ray, name: &str, qubit: u32, target: u32) -> Result<String, Fail>
+    requires { qubit < ray.old.qubits }
+{
+    let applied = match name {
+        "x" => ray.apply_x(alloc, qubit),
+        "h" => ray.apply_h(alloc, qubit),
+        _ => {
+            if target >= ray.qubits() || target == qubit {
+                return Err(Fail::from("the ray has the target"));
+            }
+            ray.apply_cnot(alloc, qubit, target)
+        }
+    };
+    let word = match applied {
+        Ok(()) => "",
+        Err(ApplyFault::AmplitudeLimit) => "too heavy: ",
+        Err(ApplyFault::OutOfMemory) => return Err(Fail::from("there is memory")),
+    };
+    let ray = ray_text(alloc, &ray.amplitudes)?;
+    Ok(format!(in alloc; "{word}{ray}")?)
+}
+
 fn told(alloc: Global, row: &str) -> Result<String, Fail> {
     let (amplitudes, command) = row.split_once(" : ").ok_or("the row has a command")?;
     let wides = light(alloc, amplitudes)?;
@@ -154,8 +178,11 @@ fn told(alloc: Global, row: &str) -> Result<String, Fail> {
     if qubit >= ray.qubits() {
         return Err(Fail::from("the ray has the qubit"));
     }
-    let bit = words.next() == Some("1");
-    Ok(on_qubit(alloc, &mut ray, name, qubit, bit)?)
+    let last: u32 = words.next().unwrap_or("0").parse()?;
+    match name {
+        "x" | "h" | "cnot" => gate(alloc, &mut ray, name, qubit, last),
+        _ => Ok(on_qubit(alloc, &mut ray, name, qubit, last == 1)?),
+    }
 }
 
 const ROWS: &str = "\
@@ -192,6 +219,14 @@ const ROWS: &str = "\
 1 0 1 0, 0 3 0 1 : halve => divided 0 1 0 0, 1 0 2 0
 0 0 0 0 : halve => divided 0 0 0 0
 1 0 0 0, 2 0 0 0, 0 0 0 0 : halve => left 1 0 0 0, 2 0 0 0, 0 0 0 0
+1 0 0 0, 0 0 0 0 : h 0 => 1 0 0 0, 1 0 0 0
+1 0 0 0, 1 0 0 0 : h 0 => 1 0 0 0, 0 0 0 0
+1 1 0 0, 1 -1 0 0 : h 0 => 1 0 0 0, 0 1 0 0
+70368744177665 0 0 0, 70368744177664 0 0 0 : h 0 => too heavy: 70368744177665 0 0 0, 70368744177664 0 0 0
+1 0 0 0, 2 0 0 0, 3 0 0 0, 0 0 0 5 : h 1 => 4 0 0 0, 2 0 0 5, -2 0 0 0, 2 0 0 -5
+1 0 0 0, 2 0 0 0, 3 0 0 0, 0 0 0 5 : x 1 => 3 0 0 0, 0 0 0 5, 1 0 0 0, 2 0 0 0
+1 0 0 0, 2 0 0 0, 3 0 0 0, 0 0 0 5 : cnot 0 1 => 1 0 0 0, 0 0 0 5, 3 0 0 0, 2 0 0 0
+1 0 0 0, 2 0 0 0, 3 0 0 0, 0 0 0 5 : cnot 1 0 => 1 0 0 0, 2 0 0 0, 0 0 0 5, 3 0 0 0
 ";
 
 #[test]
@@ -199,6 +234,21 @@ fn lists_come_to_this(rt: HostRuntime) -> Result<(), Fail> {
     for row in ROWS.lines() {
         let (given, want) = row.split_once(" => ").ok_or("the row has an answer")?;
         assert_eq!(rt; told(rt.alloc(), given)?.as_str(), want, "at {given}");
+    }
+    Ok(())
+}
+
+// All 65,536 amplitudes are 1: none is divisible by √2.
+#[test]
+fn h_on_all_qubits(rt: HostRuntime) -> Result<(), Fail> {
+    let mut ray = Ray::zero(rt.alloc(), 16)?;
+    for qubit in 0..16 {
+        assert!(rt; qubit < ray.qubits());
+        ray.apply_h(rt.alloc(), qubit)?;
+    }
+    assert_eq!(rt; ray.amplitudes.len(), 65_536);
+    for amplitude in &ray.amplitudes {
+        assert_eq!(rt; *amplitude, Amp::ONE);
     }
     Ok(())
 }
