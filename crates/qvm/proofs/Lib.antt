@@ -1,4 +1,6 @@
 pub mod Texts
-pub mod WordLemmas
+pub mod Values
+pub mod Options
+pub mod Ended
 pub mod Runs
 pub mod Replies
