@@ -1,4 +1,5 @@
 pub mod Texts
-pub mod WordLemmas
+pub mod Values
+pub mod Options
 pub mod Runs
 pub mod Replies

@@ -1,8 +1,9 @@
 -- What a call of the program's top function does, for every source and sink, every cut of the bytes and every fault.
-use Rattle.std.specs.Prelude.{◌≡◌, ℕ, ◌<◌, ◌≤◌, ◌⊎◌, Bool, true, List, [], ◌∷◌, length, take, codes, Option, IfSome}
+use Rattle.std.specs.Prelude.{◌≡◌, ℕ, ◌<◌, ◌≤◌, ◌⊎◌, Bool, true, List, length, take, codes, Option, IfSome}
 use Rattle.std.specs.Io.KnownBytes.{Consumes, Appends, Keeps, IsAtEnd}
 use Rattle.qvm_io.specs.Causes.{Rose, Stays}
 use Rattle.qvm_io.specs.Transfer.{GainsFront, LosesFront}
+use Rattle.qvm.specs.declared.command.RunOptions.{RunOptions}
 use Rattle.qvm.specs.RunText.{Reply, IsReplyTo}
 
 -- What a call meets and leaves of its source: the bytes left, where they are told; whether the last read gave the end of
@@ -24,14 +25,6 @@ pub record SinkCall : Type 0 where
 -- the most bytes that `run` reads: one more than a text may have
 abbrev pub read_bound : ℕ
 read_bound = 1048577
-
--- the most steps of a run
-abbrev pub step_limit : ℕ
-step_limit = 1000000
-
--- the words are the one word `run`
-abbrev pub IsRunCommand : List (List ℕ) → Type 0
-IsRunCommand words = words ≡ codes "run" ∷ []
 
 abbrev pub usage_text : List ℕ
 usage_text = codes "usage: qvm run | pipe | gen | audit | serve | call\n"
@@ -82,21 +75,21 @@ abbrev pub Gives : SinkCall → List ℕ → ℕ → ℕ → Type 0
 Gives sink output expected status = (Writes sink output × (status ≡ expected)) ⊎ (WriteFails sink output × (status ≡ 7))
 
 -- a text was read, and answered by its reply
-pub record Replies (source : SourceCall) (sink : SinkCall) (status : ℕ) : Type 0 where
+pub record Replies (options : RunOptions) (source : SourceCall) (sink : SinkCall) (status : ℕ) : Type 0 where
   pub text : List ℕ
   pub reply : Reply
   pub read : Reads source text
-  pub right : IsReplyTo step_limit text reply
+  pub right : IsReplyTo options.limit options.seed text reply
   pub given : Gives sink reply.output reply.status status
 
--- How a call with the word `run` ends: with the reply to the text that it read; or the source failed, nothing was written
+-- How a call of `run` with those options ends: with the reply to the text that it read; or the source failed, nothing was written
 -- and the status is 6; or memory ran out, nothing was written and the status is 8.
-abbrev pub RunEnds : SourceCall → SinkCall → ℕ → Type 0
-RunEnds source sink status =
-    Replies source sink status
+abbrev pub RunEnds : RunOptions → SourceCall → SinkCall → ℕ → Type 0
+RunEnds options source sink status =
+    Replies options source sink status
     ⊎ ((ReadFails source × WritesNothing sink × (status ≡ 6))
     ⊎ (RunsOutOfMemory source × WritesNothing sink × (status ≡ 8)))
 
--- how a call with other words ends: with the usage line and the status 2, or the sink failed
+-- how a call with words that are no command ends: with the usage line and the status 2, or the sink failed
 abbrev pub UsageEnds : SinkCall → ℕ → Type 0
 UsageEnds sink status = Gives sink usage_text 2 status

@@ -1,9 +1,9 @@
 -- What the code's run has of the definition's.
-use Rattle.std.specs.Prelude.{◌≡◌, ℕ, ◌+◌, true, if◌then◌else◌}
+use Rattle.std.specs.Prelude.{◌≡◌, ℕ, ◌+◌, true, List, if◌then◌else◌}
 use Rattle.quil_code.specs.declared.quantum.Quantum.{Quantum}
 use Rattle.quil_code.specs.Program.{Program}
 use Rattle.quil_code.specs.Step.{needs_word}
-use Rattle.qvm_step.specs.Words.{draw, zero_seed}
+use Rattle.qvm_step.specs.Words.{draw}
 use Rattle.qvm_step.specs.Run.{End, Finished}
 use Rattle.qvm_step.specs.Run as run
 use Rattle.qvm.specs.declared.run.End.{End as CodeEnd}
@@ -25,8 +25,8 @@ pub record EndsAs (finish : Finish) (f : Finished) : Type 0 where
   pub end : end_seen finish.end ≡ f.end
 
 -- the word is the next of the seed, and is then used up, where the step needs one
-pub record NextWord (program : Program) (m : Quantum) (draws draws' word : ℕ) : Type 0 where
-  pub drawn : needs_word program m ≡ true → word ≡ draw zero_seed draws
+pub record NextWord (seed : List ℕ) (program : Program) (m : Quantum) (draws draws' word : ℕ) : Type 0 where
+  pub drawn : needs_word program m ≡ true → word ≡ draw seed draws
   pub count : draws' ≡ (if needs_word program m then draws + 1 else draws)
 
 -- the reply that the code holds

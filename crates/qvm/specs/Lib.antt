@@ -1,3 +1,5 @@
+pub mod Command
+pub mod Given
 pub mod RunText
 pub mod Calls
 pub mod Ends

@@ -13,7 +13,6 @@ use Rattle.quil_code.specs.declared.load_fault.LoadFault.{LoadFault}
 use Rattle.quil_code.specs.Faults.{fault_report, load_report}
 use Rattle.quil_code.specs.Program.{Program}
 use Rattle.quil_link.specs.Load.{IsLoaded}
-use Rattle.qvm_step.specs.Words.{zero_seed}
 use Rattle.qvm_step.specs.Run.{End, Halted, Waiting, StepLimit, Fault, Finished, finished, start}
 
 -- the bytes written, and the status
@@ -71,13 +70,17 @@ finished_reply layout f = record { output = memory_text f.machine.memory layout 
 
 -- ---- the reply to a text
 
--- a program is run from its start with the words of a seed, and a refusal is told
+-- a refusal is told
+abbrev pub refused_reply : LoadFault → Reply
+refused_reply f = record { output = report_line (codes "error: ") (load_report f); status = 1 }
+
+-- a program is run from its start with the words of a seed
 abbrev pub reply_of : ℕ → List ℕ → Result Program LoadFault → Reply
 reply_of limit seed (Ok program) = finished_reply program.layout (finished limit program seed (start program) 0)
-reply_of limit seed (Err f) = record { output = report_line (codes "error: ") (load_report f); status = 1 }
+reply_of limit seed (Err f) = refused_reply f
 
--- the text is loaded, and the words of its run are those of the seed that is all zeros
-pub record IsReplyTo (limit : ℕ) (text : List ℕ) (reply : Reply) : Type 0 where
+-- the text is loaded, and run for at most so many steps with the words of the seed
+pub record IsReplyTo (limit : ℕ) (seed text : List ℕ) (reply : Reply) : Type 0 where
   pub loaded : Result Program LoadFault
   pub is_loaded : IsLoaded text loaded
-  pub is : reply ≡ reply_of limit zero_seed loaded
+  pub is : reply ≡ reply_of limit seed loaded

@@ -1,20 +1,16 @@
 //! The reply to a text: what is printed, and the status.
 
-ghost use Rattle.std.specs.Prelude.{◌≡◌, ◌≢◌, ◌<◌, ◌++◌, OnOk, IfOk, Ok, Err};
+ghost use Rattle.std.specs.Prelude.{◌≡◌, ◌≢◌, ◌<◌, ◌++◌, OnOk, IfOk, Ok};
 ghost use Rattle.quil_code.specs.declared.load_fault.LoadFault.TheVariants.{OutOfMemory};
-ghost use Rattle.qvm_step.specs.Words.{zero_seed};
 ghost use Rattle.qvm.specs.Ends.{end_seen, reply_seen};
-ghost use Rattle.qvm.specs.Calls.{step_limit};
-ghost use Rattle.qvm.specs.RunText.{IsReplyTo, end_text, end_status, reply_of};
+ghost use Rattle.qvm.specs.RunText.{IsReplyTo, end_text, end_status, refused_reply, reply_of};
 
+use crate::command::RunOptions;
 use crate::run::{End, run};
 use crate::text::{memory_text, push_line};
 use quil_code::{Code, LoadFault};
 use quil_link::load;
 use std::alloc::{AllocError, Global};
-
-// The most steps of a run.
-const STEP_LIMIT: u32 = 1_000_000;
 
 const REFUSED: u8 = 1;
 
@@ -50,11 +46,11 @@ fn push_end(alloc: Global, output: &mut Vec<u8>, end: End) -> Result<(), AllocEr
 }
 
 // The reply to a text that is a program.
-fn run_reply(alloc: Global, code: &Code) -> Result<Reply, AllocError>
-    ensures reply { IfOk result (λ reply. reply_seen reply ≡ reply_of step_limit zero_seed (Ok code.now)) }
+fn run_reply(alloc: Global, code: &Code, options: RunOptions) -> Result<Reply, AllocError>
+    ensures reply { IfOk result (λ reply. reply_seen reply ≡ reply_of options.limit options.seed (Ok code.now)) }
     ensures status { IfOk result (λ reply. reply.status < 6) }
 {
-    let finish = run(alloc, code, STEP_LIMIT)?;
+    let finish = run(alloc, code, options.seed, options.limit)?;
     let mut output = memory_text(alloc, code.layout(), &finish.memory)?;
     push_end(alloc, &mut output, finish.end)?;
     Ok(Reply {
@@ -66,7 +62,7 @@ fn run_reply(alloc: Global, code: &Code) -> Result<Reply, AllocError>
 // The reply to a text that is refused.
 fn refusal(alloc: Global, fault: &LoadFault) -> Result<Reply, AllocError>
     ensures known { IfOk result (λ reply. fault.now ≢ OutOfMemory) }
-    ensures reply { IfOk result (λ reply. reply_seen reply ≡ reply_of step_limit zero_seed (Err fault.now)) }
+    ensures reply { IfOk result (λ reply. reply_seen reply ≡ refused_reply fault.now) }
     ensures status { IfOk result (λ reply. reply.status < 6) }
 {
     if matches!(fault, LoadFault::OutOfMemory) {
@@ -80,13 +76,13 @@ fn refusal(alloc: Global, fault: &LoadFault) -> Result<Reply, AllocError>
     })
 }
 
-/// The reply to a text: its program is run, or its refusal is told.
-pub(crate) fn answer(alloc: Global, text: &[u8]) -> Result<Reply, AllocError>
-    ensures reply { IfOk result (λ reply. IsReplyTo step_limit text.now (reply_seen reply)) }
+/// The reply to a text: its program is run with those options, or its refusal is told.
+pub(crate) fn answer(alloc: Global, text: &[u8], options: RunOptions) -> Result<Reply, AllocError>
+    ensures reply { IfOk result (λ reply. IsReplyTo options.limit options.seed text.now (reply_seen reply)) }
     ensures status { IfOk result (λ reply. reply.status < 6) }
 {
     match load(alloc, text) {
-        Ok(code) => run_reply(alloc, &code),
+        Ok(code) => run_reply(alloc, &code, options),
         Err(fault) => refusal(alloc, &fault),
     }
 }

@@ -1,11 +1,14 @@
 //! The top call of the commands that need no network: words and bytes in, bytes and a status out.
 
-ghost use Rattle.std.specs.Prelude.{◌≡◌, ◌⊎◌, ◌<◌, ◌↔◌, IsTrue, map, string_bytes, codes};
+ghost use Rattle.std.specs.Prelude.{◌≡◌, ◌⊎◌, ◌<◌, map, string_bytes};
 ghost use Rattle.qvm_io.specs.Causes.{NeverFalls};
 ghost use Rattle.qvm_io.specs.Transfer.{EndsOnceAtMost};
-ghost use Rattle.qvm.specs.Calls.{IsRunCommand, RunEnds, UsageEnds, Gives, usage_text};
+ghost use Rattle.qvm.specs.declared.command.RunOptions.{RunOptions};
+ghost use Rattle.qvm.specs.Command.{command_of};
+ghost use Rattle.qvm.specs.Calls.{RunEnds, UsageEnds, Gives, usage_text};
 
 use crate::answer::answer;
+use crate::command::{Command, RunOptions, command_of};
 use qvm_io::{ReadError, Sink, Source, read_all, write_all};
 use std::alloc::Global;
 
@@ -20,15 +23,6 @@ const READ_FAULT: u8 = 6;
 const WRITE_FAULT: u8 = 7;
 
 const OUT_OF_MEMORY: u8 = 8;
-
-fn is_run(words: &[String]) -> bool
-    ensures { IsTrue result ↔ IsRunCommand (map string_bytes words.now) }
-{
-    match words {
-        [word] => word.as_str() == "run",
-        _ => false,
-    }
-}
 
 // Writes the output, and gives the status that goes with it, or that of a write fault.
 fn given<K: Sink>(sink: &mut K, output: &[u8], status: u8) -> u8
@@ -52,8 +46,8 @@ fn usage<K: Sink>(sink: &mut K) -> u8
     given(sink, line, USAGE_STATUS)
 }
 
-fn run<S: Source, K: Sink>(alloc: Global, source: &mut S, sink: &mut K) -> u8
-    ensures ends { RunEnds
+fn run<S: Source, K: Sink>(alloc: Global, options: RunOptions, source: &mut S, sink: &mut K) -> u8
+    ensures ends { RunEnds options
         (record { left_before = S.bytes_left source.old; left_after = S.bytes_left source.new; at_end_after = S.saw_end source.new; faults_before = S.faults source.old; faults_after = S.faults source.new })
         (record { taken_before = K.bytes_taken sink.old; taken_after = K.bytes_taken sink.new; faults_before = K.faults sink.old; faults_after = K.faults sink.new })
         result }
@@ -68,7 +62,7 @@ fn run<S: Source, K: Sink>(alloc: Global, source: &mut S, sink: &mut K) -> u8
         Err(ReadError::Failed) => return READ_FAULT,
         Err(ReadError::OutOfMemory) => return OUT_OF_MEMORY,
     };
-    match answer(alloc, &text) {
+    match answer(alloc, &text, options) {
         Ok(reply) => given(sink, &reply.output, reply.status),
         Err(_) => OUT_OF_MEMORY,
     }
@@ -76,31 +70,30 @@ fn run<S: Source, K: Sink>(alloc: Global, source: &mut S, sink: &mut K) -> u8
 
 /// The program behind its name: the words after it, a source and a sink, and the status that it ends with.
 ///
-/// The one word `run` reads a Quil program from the source, loads and runs it, and writes its memory at the end, or writes why
-/// it is refused. Everything else is a usage refusal, which reads nothing.
+/// `run` with its options reads a Quil program from the source, loads and runs it, and writes its memory at the end, or writes
+/// why it is refused. Words that are no command are a usage refusal, which reads nothing.
 pub fn local_main<S: Source, K: Sink>(
     alloc: Global,
     words: &[String],
     source: &mut S,
     sink: &mut K,
 ) -> u8
-    ensures run { IsRunCommand (map string_bytes words.now) → RunEnds
+    ensures run { (options : RunOptions) → command_of (map string_bytes words.now) ≡ Some (Command.Run options) → RunEnds options
         (record { left_before = S.bytes_left source.old; left_after = S.bytes_left source.new; at_end_after = S.saw_end source.new; faults_before = S.faults source.old; faults_after = S.faults source.new })
         (record { taken_before = K.bytes_taken sink.old; taken_after = K.bytes_taken sink.new; faults_before = K.faults sink.old; faults_after = K.faults sink.new })
         result }
-    ensures usage { ¬ (IsRunCommand (map string_bytes words.now)) → UsageEnds
+    ensures usage { command_of (map string_bytes words.now) ≡ None → UsageEnds
         (record { taken_before = K.bytes_taken sink.old; taken_after = K.bytes_taken sink.new; faults_before = K.faults sink.old; faults_after = K.faults sink.new })
         result }
-    ensures reads_nothing { ¬ (IsRunCommand (map string_bytes words.now)) → source.new ≡ source.old }
+    ensures reads_nothing { command_of (map string_bytes words.now) ≡ None → source.new ≡ source.old }
     ensures one_end { EndsOnceAtMost (S.ends source.old) (S.ends source.new) (S.saw_end source.new) }
-    ensures read_fault { result ≡ 6 → sink.new ≡ sink.old }
+    ensures read_fault { (options : RunOptions) → command_of (map string_bytes words.now) ≡ Some (Command.Run options) → result ≡ 6 → sink.new ≡ sink.old }
     ensures no_memory { result ≡ 8 → sink.new ≡ sink.old }
     ensures source_count { NeverFalls (S.faults source.old) (S.faults source.new) }
     ensures sink_count { NeverFalls (K.faults sink.old) (K.faults sink.new) }
 {
-    if is_run(words) {
-        run(alloc, source, sink)
-    } else {
-        usage(sink)
+    match command_of(words) {
+        Some(Command::Run(options)) => run(alloc, options, source, sink),
+        None => usage(sink),
     }
 }

@@ -1,10 +1,13 @@
 //! The program `qvm`: exact quantum virtual machines.
 //!
 //! `main` makes the real objects and hands them to `local_main`, whose contract says what is read, what is written and which
-//! status comes when (`specs/Calls`, `specs/RunText`).
+//! status comes when (`specs/Command`, `specs/Calls`, `specs/RunText`).
 #![tactic(auto)]
 
 mod answer;
+mod command;
+#[cfg(test)]
+mod command_tests;
 mod laws;
 mod local;
 #[cfg(test)]

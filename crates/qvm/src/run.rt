@@ -2,7 +2,7 @@
 
 ghost use Rattle.std.specs.Prelude.{◌≡◌, ◌+◌, ◌<◌, ◌^◌, if◌then◌else◌, length, IfOk};
 ghost use Rattle.quil_code.specs.Step.{FitsProgram, Answers, step, needs_word};
-ghost use Rattle.qvm_step.specs.Words.{draw, zero_seed};
+ghost use Rattle.qvm_step.specs.Words.{draw};
 ghost use Rattle.qvm_step.specs.Run.{end_at_wait, finished, start};
 ghost use Rattle.qvm.specs.Ends.{NextWord, EndsAs, end_seen};
 
@@ -11,9 +11,6 @@ use quil_memory::Memory;
 use qvm_ring::Ray;
 use qvm_step::{draw, needs_word, step, word_matters_at_measurements_alone};
 use std::alloc::{AllocError, Global};
-
-// The words of a run are those of the seed that is all zeros.
-const ZERO_SEED: [u8; 32] = [0; 32];
 
 /// How a run ended.
 #[derive(Clone, Copy, Debug, PartialEq, Eq)]
@@ -36,15 +33,15 @@ pub(crate) struct Finish {
 }
 
 // The word of the next step: a new one of the seed where it is a measurement.
-fn next_word(code: &Code, machine: &Quantum, draws: &mut u64) -> u32
+fn next_word(code: &Code, seed: [u8; 32], machine: &Quantum, draws: &mut u64) -> u32
     requires fits { FitsProgram code.now machine.now }
-    requires room { draws.old < 2 ^ 63 }
-    ensures { NextWord code.now machine.now draws.old draws.new result }
+    requires room { draws.old + 1 < 2 ^ 64 }
+    ensures { NextWord seed code.now machine.now draws.old draws.new result }
 {
     if !needs_word(code, machine) {
         return 0;
     }
-    let word = draw(ZERO_SEED, *draws);
+    let word = draw(seed, *draws);
     *draws += 1;
     word
 }
@@ -60,20 +57,26 @@ fn first_machine(alloc: Global, code: &Code) -> Result<Quantum, AllocError>
 }
 
 // One step, with its word.
-fn advance(alloc: Global, code: &Code, machine: &mut Quantum, draws: &mut u64) -> Stepped
+fn advance(
+    alloc: Global,
+    code: &Code,
+    seed: [u8; 32],
+    machine: &mut Quantum,
+    draws: &mut u64,
+) -> Stepped
     requires fits { FitsProgram code.now machine.old }
-    requires room { draws.old < 2 ^ 63 }
-    ensures answer { Answers result (step code.now machine.old (draw zero_seed draws.old)) machine.old machine.new }
+    requires room { draws.old + 1 < 2 ^ 64 }
+    ensures answer { Answers result (step code.now machine.old (draw seed draws.old)) machine.old machine.new }
     ensures count { draws.new ≡ (if needs_word code.now machine.old then draws.old + 1 else draws.old) }
     ensures fits { FitsProgram code.now machine.new }
 {
-    let word = next_word(code, machine, draws);
+    let word = next_word(code, seed, machine, draws);
     word_matters_at_measurements_alone();
     step(alloc, code, machine, word)
 }
 
 // How a run ends at WAIT with so many steps left.
-fn end_at_wait(left: u32) -> End
+fn end_at_wait(left: u64) -> End
     ensures { end_seen result ≡ end_at_wait left }
 {
     if left == 0 {
@@ -95,15 +98,20 @@ fn ended(machine: Quantum, end: End) -> Finish
     Finish { memory, end }
 }
 
-/// The run of a program, of at most so many steps, with the words of the zero seed.
-pub(crate) fn run(alloc: Global, code: &Code, limit: u32) -> Result<Finish, AllocError>
-    ensures run { IfOk result (λ finish. EndsAs finish (finished limit code.now zero_seed (start code.now) 0)) }
+/// The run of a program, with the words of a seed and of at most so many steps.
+pub(crate) fn run(
+    alloc: Global,
+    code: &Code,
+    seed: [u8; 32],
+    limit: u64,
+) -> Result<Finish, AllocError>
+    ensures run { IfOk result (λ finish. EndsAs finish (finished limit code.now seed (start code.now) 0)) }
     ensures bits { IfOk result (λ finish. length finish.memory ≡ code.now.layout.bits) }
 {
     let mut machine = first_machine(alloc, code)?;
     let mut draws = 0;
     for done in 0..limit {
-        match advance(alloc, code, &mut machine, &mut draws) {
+        match advance(alloc, code, seed, &mut machine, &mut draws) {
             Stepped::Went => {}
             Stepped::Halted => return Ok(ended(machine, End::Halted)),
             Stepped::AtWait => return Ok(ended(machine, end_at_wait(limit - done - 1))),

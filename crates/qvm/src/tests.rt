@@ -33,18 +33,28 @@ fn source_of(
     Ok(MemSource::new(bytes, pieces, failures))
 }
 
-// What a text comes to, read in pieces of that size, 0 for whole pieces: the status, and what is written, as in a row.
-fn told(alloc: Global, text: &str, piece: usize) -> Result<String, Fail> {
-    let words = words_of(alloc, &["run"])?;
+// What words and a text come to, read in pieces of that size, 0 for whole pieces: the status, and what is written, as in a row.
+pub(crate) fn told_by(
+    alloc: Global,
+    words: &[String],
+    text: &str,
+    piece: usize,
+) -> Result<String, Fail> {
     let mut source = source_of(alloc, text.as_bytes(), piece, None)?;
     let mut sink = MemSink::new(alloc);
-    let status = local_main(alloc, &words, &mut source, &mut sink);
+    let status = local_main(alloc, words, &mut source, &mut sink);
     let written = str::from_utf8(sink.taken()).unwrap_or("?");
     if written.is_empty() {
         return Ok(format!(in alloc; "{status}")?);
     }
     let line = written.replace(alloc, "\n", "⏎")?;
     Ok(format!(in alloc; "{status} {line}")?)
+}
+
+// What `run` without options makes of a text.
+fn told(alloc: Global, text: &str, piece: usize) -> Result<String, Fail> {
+    let words = words_of(alloc, &["run"])?;
+    told_by(alloc, &words, text, piece)
 }
 
 // The rows whose texts come to something else, read whole or byte by byte. In a row `⏎` stands for a line feed.
