@@ -206,9 +206,6 @@ Exchanges-skip q old now i h m = record { same_length = m.same_length; each = λ
 nothing : Amp
 nothing = record { a = pos 0; b = pos 0; c = pos 0; d = pos 0 }
 
-in_elements : (xs : List Amp) (x : ℕ) → x < length xs → x < length (elements_of xs)
-in_elements xs x l = omega (arith, length-map xs element_of)
-
 at_moved : (xs ys : List Amp) (x y : ℕ) → x < length ys → y < length xs → get_or ys x nothing ≡ get_or xs y nothing → at (elements_of ys) x ≡ at (elements_of xs) y
 at_moved xs ys x y l k e = at_map element_of ys x nothing l ∙ ap element_of e ∙ sym (at_map element_of xs y nothing k)
 

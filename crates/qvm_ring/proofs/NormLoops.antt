@@ -14,8 +14,6 @@ use Rattle.qvm_ring.specs.Gate.{bit_of}
 use Rattle.qvm_ring.specs.Measure.{Norm, norm_of, sum_of_roots, kept}
 use Rattle.qvm_ring.specs.declared.signed_norm.Norm.{Norm as SignedNorm}
 use Rattle.qvm_ring.specs.NormViews.{norm_seen, IsNorm}
-use Rattle.qvm_ring.specs.Views.{IsBelow}
-use Rattle.qvm_ring.proofs.Reductions.{IsBelow-norm_whole}
 use Rattle.qvm_ring.proofs.Norms.{abs_sum}
 use Rattle.qvm_ring.proofs.Vectors.{weight_step, roots_step, weight_room, kept_at, kept_ray_of}
 
@@ -30,10 +28,6 @@ root_parts z p q f r s g t hp hq hf hr hs hg ht =
 
 pub same_norm : (m n : Norm) → m.u ≡ n.u → m.v ≡ n.v → m ≡ n
 same_norm m n p q i = record { u = p i; v = q i }
-
--- an amplitude that leaves room is small
-pub room_below : (u : ℕ) (z : Element) → u + norm_whole z ≤ weight_limit → IsBelow (2 ^ 62) z
-room_below u z h = IsBelow-norm_whole z (omega (arith, h))
 
 -- ---- the sums of `add`
 

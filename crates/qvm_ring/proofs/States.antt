@@ -1,5 +1,5 @@
 -- When the vector of a ray is a state, and what the methods need of one.
-use Rattle.std.proofs.Common.{◌≡◌, ◌≢◌, refl, sym, ◌∙◌, ap, subst, ℕ, zero, suc, ◌^◌, ◌<◌, ◌≤◌, inl, inr, List, [], ◌∷◌, ◌++◌, take, length, set, get_or, replicate, arith}
+use Rattle.std.proofs.Common.{◌≡◌, ◌≢◌, refl, sym, ◌∙◌, ap, subst, ℕ, ◌^◌, ◌<◌, ◌≤◌, inl, inr, List, [], ◌∷◌, ◌++◌, take, length, set, get_or, arith}
 use Rattle.std.specs.Prelude.{All}
 use Rattle.std.proofs.Math.ListN.{length-set}
 use Rattle.std.proofs.Math.Seq.{take-append_seam}
@@ -26,9 +26,6 @@ light_below zs w = All_from_at (IsBelow (2 ^ 62)) zs (λ i l.
     IsBelow-norm_whole (at zs i) (omega (arith, weight_room (length zs) (at zs) i l, w)))
 
 -- ---- one state
-
-pub same_state : (n : ℕ) (s : State) (r r' : Ray) → n ≡ s.qubits → r ≡ r' → record { qubits = n; amplitudes = r } ≡ record s { amplitudes = r' }
-same_state n s r r' p q i = record { qubits = p i; amplitudes = q i }
 
 -- a list of 2^n elements that aren't all 0 and don't weigh too much
 pub IsVector-made : (n : ℕ) (zs : List Element) → n ≤ 16 → length zs ≡ 2 ^ n → map_of zs ≢ [] → weight (map_of zs) ≤ weight_limit → IsVector n zs
@@ -63,14 +60,6 @@ zero_listed zs u h e z =
       | inr (inl f) ↦ amplitude_at_head (0, unit) [] x (sym f) ∙ sym (ap (at (set zs 0 u)) f ∙ at_set_here zs 0 u h ∙ e)
       | inr (inr j) ↦ amplitude_at_tail (0, unit) [] x (λ f. omega arith) ∙ sym (at_set_other zs 0 x u (λ f. omega arith) ∙ z x l)
     ]))
-
-pub IsVector-zero : (n : ℕ) (zs : List Element) → n ≤ 16 → length zs ≡ 2 ^ n → map_of zs ≡ zero_ray → IsVector n zs
-IsVector-zero n zs h e p = IsVector-made n zs h e (λ f. absurd (let g : zero_ray ≡ [] = sym p ∙ f in cc)) (omega (arith, ap weight p))
-
-pub at_replicated : (k : ℕ) (z : Amp) (x : ℕ) → element_of z ≡ nought → at (elements_of (replicate k z)) x ≡ nought
-at_replicated zero z x e = refl
-at_replicated (suc k) z zero e = e
-at_replicated (suc k) z (suc x) e = at_replicated k z x e
 
 -- ---- an amplitude
 
