@@ -1,6 +1,6 @@
 -- Options, one at a time.
-use Rattle.std.proofs.Common.{◌≡◌, refl, sym, ◌∙◌, ap, ℕ, ◌+◌, ◌<◌, ◌≤◌, Bool, true, false, ◌&&◌, ◌||◌, cond, List, [], ◌∷◌, length, map, filter, take, drop, Bor, arith}
-use Rattle.std.specs.Prelude.{String, string_bytes, Option, Some, None, MatchOption, option_map, option_and_then, unwrap_or, is_none, bytes_eq, nat_lt, ◌==◌, codes, if◌then◌else◌}
+use Rattle.std.proofs.Common.{◌≡◌, refl, sym, ◌∙◌, ap, ℕ, ◌+◌, ◌<◌, Bool, true, false, ◌&&◌, ◌||◌, cond, List, [], ◌∷◌, length, map, filter, take, drop, Bor, arith}
+use Rattle.std.specs.Prelude.{String, string_bytes, Option, Some, None, MatchOption, option_map, option_and_then, is_none, bytes_eq, ◌==◌, codes, if◌then◌else◌}
 use Rattle.std.specs.List.{list_all, position_or_len, before_first, after_first}
 use Rattle.std.specs.declared.alloc.Global.{Global}
 use Rattle.std.proofs.lemmas.Bool.{le-ltb, lt-ltb, both_ways}
@@ -164,22 +164,9 @@ step g c cs =
     ∙ ap (λ (vs : List (List ℕ)). if list_all known (c ∷ cs) then both (left g.seed zero_seed seed_of (if has_name seed_name c then c.value ∷ values_of seed_name cs else values_of seed_name cs)) (left g.limit default_limit limit_of vs) else None) (values-cons (has_name limit_name c) c (filter (has_name limit_name) cs))
     ∙ step_by (has_name seed_name c) (has_name limit_name c) (list_all known cs) g c.value (values_of seed_name cs) (values_of limit_name cs) (one_name c.name)
 
--- what is left, at the end
-none_left : (g : Given) → rest_of g [] ≡ Some (record { seed = unwrap_or g.seed zero_seed; limit = unwrap_or g.limit default_limit })
-none_left g = by g.seed g.limit
-  where
-    by : (s : Option (List ℕ)) (l : Option ℕ) → both (left s zero_seed seed_of []) (left l default_limit limit_of []) ≡ Some (record { seed = unwrap_or s zero_seed; limit = unwrap_or l default_limit })
-    by None None = refl
-    by None (Some l) = refl
-    by (Some s) None = refl
-    by (Some s) (Some l) = refl
-
 -- what words are, where some options have been read
 abbrev pub rest_of_words : Given → List (String Global) → Option RunOptions
 rest_of_words g words = option_and_then (rest_of g) (choices_of (map string_bytes words))
-
-pub rest_of_none : (g : Given) (words : List (String Global)) → words ≡ [] → rest_of_words g words ≡ Some (record { seed = unwrap_or g.seed zero_seed; limit = unwrap_or g.limit default_limit })
-rest_of_none g words e = ap (rest_of_words g) e ∙ none_left g
 
 went : (g : Given) (c : Choice) (o : Option (List Choice)) → option_and_then (rest_of g) (option_map (λ cs. c ∷ cs) o) ≡ option_and_then (λ g'. option_and_then (rest_of g') o) (with_option g c.name c.value)
 went g c (Some cs) = step g c cs
