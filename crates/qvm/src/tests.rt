@@ -106,6 +106,12 @@ DECLARE x INTEGER[2]⏎MOVE x -9223372036854775808⏎MOVE x[1] 10⏎DIV x[1] -3�
 DECLARE t REAL⏎ => 0 t: 0⏎
 DECLARE x INTEGER⏎DECLARE t REAL SHARING x⏎MOVE x -3⏎ => 0 x: -3⏎t: -3*pi/4⏎
 DECLARE x INTEGER⏎DECLARE t REAL SHARING x⏎MOVE x 4⏎ => 0 x: 4⏎t: pi⏎
+DECLARE n INTEGER[9]⏎DECLARE t REAL[9] SHARING n⏎MOVE n[1] 1⏎MOVE n[2] -1⏎MOVE n[3] 2⏎MOVE n[4] -2⏎MOVE n[5] 3⏎MOVE n[6] -3⏎MOVE n[7] -4⏎MOVE n[8] 6 => 0 n: 0 1 -1 2 -2 3 -3 -4 6⏎t: 0 pi/4 -pi/4 pi/2 -pi/2 3*pi/4 -3*pi/4 -pi 3*pi/2⏎
+DECLARE n INTEGER[5]⏎DECLARE t REAL[5] SHARING n⏎MOVE n 8⏎MOVE n[1] -8⏎MOVE n[2] 10⏎MOVE n[3] 9223372036854775807⏎MOVE n[4] -9223372036854775808 => 0 n: 8 -8 10 9223372036854775807 -9223372036854775808⏎t: 2*pi -2*pi 5*pi/2 9223372036854775807*pi/4 -2305843009213693952*pi⏎
+DECLARE x INTEGER[2]⏎DECLARE b BIT[16] SHARING x OFFSET 56 BIT⏎DECLARE o OCTET[2] SHARING x OFFSET 7 OCTET⏎MOVE x -2⏎MOVE o[1] 129⏎MOVE b 0 => 0 x: -72057594037927938 129⏎b: 0 1 1 1 1 1 1 1 1 0 0 0 0 0 0 1⏎o: 254 129⏎
+DECLARE ro BIT⏎RESET 0⏎RESET 0⏎RESET 0⏎H 0⏎MEASURE 0 ro⏎ => 0 ro: 1⏎
+DECLARE ro BIT[3]⏎X 0⏎X 1⏎RESET 0⏎MEASURE 0 ro⏎MEASURE 1 ro[1]⏎RESET⏎MEASURE 1 ro[2]⏎ => 0 ro: 0 1 0⏎
+DECLARE ro BIT[3]⏎RESET⏎RESET⏎RESET⏎H 0⏎MEASURE 0 ro⏎ => 0 ro: 0 0 0⏎
 WAIT⏎ => 3 waiting⏎
 DECLARE ro BIT⏎X 0⏎MEASURE 0 ro⏎WAIT⏎NOT ro⏎ => 3 ro: 1⏎waiting⏎
 DECLARE x INTEGER⏎MOVE x 9223372036854775807⏎ADD x 1 => 4 x: 9223372036854775807⏎fault: 29 Overflow line=3⏎
@@ -235,6 +241,42 @@ fn limits_of_a_program(rt: HostRuntime) -> Result<(), Fail> {
         1,
         &memory,
     )
+}
+
+#[test]
+fn as_many_steps_as_a_program_has(rt: HostRuntime) -> Result<(), Fail> {
+    check_copies(&rt, rt.alloc(), "NOP\n", 65_536, "0")?;
+    check_copies(&rt, rt.alloc(), "H 0\n", 65_536, "0")
+}
+
+// The last 64 bits of a memory of 65,536.
+#[test]
+fn the_end_of_memory(rt: HostRuntime) -> Result<(), Fail> {
+    let alloc = rt.alloc();
+    let front = "DECLARE x INTEGER[1024]\nDECLARE b BIT[3] SHARING x OFFSET 65533 BIT\n";
+    let text = format!(in alloc; "{front}MOVE x[1023] -9223372036854775808\n")?;
+    let zeros = repeated(alloc, " 0", 1023)?;
+    let want = format!(in alloc; "0 x:{} -9223372036854775808⏎b: 0 0 1⏎", zeros.as_str())?;
+    assert_eq!(rt; told(alloc, &text, 0)?.as_str(), want.as_str());
+    Ok(())
+}
+
+// Word 3 of the zero seed is below 2^31, so the RESET behind three others finds a 1, and with it all qubits are 1.
+#[test]
+fn reset_of_one_in_sixteen(rt: HostRuntime) -> Result<(), Fail> {
+    let alloc = rt.alloc();
+    let mut text = String::from_str(alloc, "DECLARE ro BIT[16]\n")?;
+    text.push_str("RESET 9\nRESET 9\nRESET 9\nH 0\n")?;
+    for q in 1..16 {
+        text.push_str(&format!(in alloc; "CNOT 0 {q}\n")?)?;
+    }
+    text.push_str("RESET 0\n")?;
+    for q in 0..16 {
+        text.push_str(&format!(in alloc; "MEASURE {q} ro[{q}]\n")?)?;
+    }
+    let output = "0 ro: 0 1 1 1 1 1 1 1 1 1 1 1 1 1 1 1⏎";
+    assert_eq!(rt; told(alloc, &text, 0)?.as_str(), output);
+    Ok(())
 }
 
 // X on three of sixteen qubits, and H twice on each.
