@@ -27,4 +27,3 @@ pub use memory::Memory;
 pub use name::Name;
 pub use region::Region;
 pub use regions::{Layout, MOST_BITS};
-
