@@ -1,6 +1,6 @@
 -- Programs as a machine runs them: the layout of memory, the qubits, and the lines in the order of the expanded text
 -- (arXiv 1608.03355; DECLARE, MEASURE and the classical instructions of the Quil specification).
-use Rattle.std.specs.Prelude.{◌≡◌, ◌≢◌, ℕ, ◌+◌, ◌*◌, ◌<◌, ◌≤◌, ◌^◌, List, length, ℤ, Option, Some, None}
+use Rattle.std.specs.Prelude.{◌≢◌, ℕ, ◌+◌, ◌<◌, ◌≤◌, ◌^◌, List, length, Option, Some, None}
 use Rattle.std.specs.List.{AllByRecursion}
 use Rattle.std.specs.List.Sorted.{IsStrictlyIncreasing}
 use Rattle.quil_memory.specs.declared.cell_type.CellType.{CellType}

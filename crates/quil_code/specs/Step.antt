@@ -1,6 +1,6 @@
 -- One step of the abstract machine (arXiv 1608.03355, with MEASURE, RESET, WAIT, NOP, HALT and the classical instructions of the
 -- Quil specification).
-use Rattle.std.specs.Prelude.{◌≡◌, ℕ, ◌+◌, ◌≤◌, nat_le, Bool, true, false, if◌then◌else◌, List, [], ◌∷◌, length, drop, Option, Some, None, is_some, Result, Ok, Err, slice_get}
+use Rattle.std.specs.Prelude.{◌≡◌, ℕ, ◌+◌, ◌≤◌, nat_le, Bool, true, false, if◌then◌else◌, List, [], ◌∷◌, length, drop, Option, Some, None, is_some, Ok, Err, slice_get}
 use Rattle.std.specs.List.{prefix_len}
 use Rattle.qvm_ring.specs.Ray.{Ray, State, weight, weight_limit}
 use Rattle.qvm_ring.specs.Gate.{Gate, x_gate, h_gate, cnot_gate, applied, zero_ray}

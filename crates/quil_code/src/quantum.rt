@@ -23,6 +23,6 @@ pub enum Stepped {
     AtWait,
     /// A fault. Nothing changed.
     Fault(Fault),
-    /// Want of memory, at a gate or a measurement. Nothing changed.
+    /// Want of memory, at a gate. Nothing changed.
     OutOfMemory,
 }

@@ -16,8 +16,8 @@ use Rattle.quil_link.specs.declared.gate.Standard.{Standard}
 use Rattle.quil_link.specs.declared.gate.Standard.TheVariants as standard
 
 -- the gate of a name
-abbrev pub standard_gate : List ℕ → Option Standard
-standard_gate name =
+abbrev pub gate_named : List ℕ → Option Standard
+gate_named name =
     if bytes_eq name (codes "X") then Some standard.X
     else if bytes_eq name (codes "H") then Some standard.H
     else if bytes_eq name (codes "CNOT") then Some standard.Cnot
@@ -41,7 +41,7 @@ is_number_if_any (Some q) = is_number q
 
 -- without modifiers and parameters
 abbrev pub is_built_gate : Gate → Bool
-is_built_gate g = nat_eq (length g.modifiers) 0 && (nat_eq (length g.parameters) 0 && (is_some (standard_gate g.name.text) && list_all is_number g.qubits))
+is_built_gate g = nat_eq (length g.modifiers) 0 && (nat_eq (length g.parameters) 0 && (is_some (gate_named g.name.text) && list_all is_number g.qubits))
 
 abbrev pub is_built_operand : Operand → Bool
 is_built_operand (operand.Reference r) = true

@@ -10,7 +10,7 @@ use Rattle.quil_code.specs.declared.load_fault.LoadFault.{LoadFault}
 use Rattle.quil_code.specs.declared.load_fault.LoadFault.TheVariants as fault
 use Rattle.quil_link.specs.declared.gate.Standard.{Standard}
 use Rattle.quil_link.specs.declared.gate.Standard.TheVariants as standard
-use Rattle.quil_link.specs.Built.{standard_gate}
+use Rattle.quil_link.specs.Built.{gate_named}
 
 -- a program has at most so many statements
 abbrev pub most_statements : ℕ
@@ -27,7 +27,7 @@ has_arity n None = true
 has_arity n (Some g) = nat_eq n (arity g)
 
 abbrev pub is_fitting : Statement → Bool
-is_fitting (statement.Gate g) = has_arity (length g.qubits) (standard_gate g.name.text)
+is_fitting (statement.Gate g) = has_arity (length g.qubits) (gate_named g.name.text)
 is_fitting s = true
 
 abbrev pub wrong_arity : Line → Option LoadFault

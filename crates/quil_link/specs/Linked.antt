@@ -28,7 +28,7 @@ use Rattle.quil_link.specs.declared.gate.Standard.TheVariants as standard
 use Rattle.quil_link.specs.declared.term.TypedCell.{TypedCell}
 use Rattle.quil_link.specs.declared.term.Term.{Term}
 use Rattle.quil_link.specs.Passes.{and_then}
-use Rattle.quil_link.specs.Built.{standard_gate, qubit_number}
+use Rattle.quil_link.specs.Built.{gate_named, qubit_number}
 use Rattle.quil_link.specs.Cells.{cell_at, span_named, term_at}
 use Rattle.quil_link.specs.Types.{cell_as, typed_move, typed_exchange, typed_sum, typed_product, typed_neg, typed_not, typed_bits, typed_convert, typed_load, typed_store, typed_comparison}
 
@@ -92,7 +92,7 @@ on_qubits line (Some standard.H) qs = and_then (one_qubit line qs) (λ q. Ok (in
 on_qubits line (Some standard.Cnot) qs = linked_cnot line qs
 
 abbrev pub linked_gate : ℕ → Gate → Result Instruction LoadFault
-linked_gate line g = on_qubits line (standard_gate g.name.text) g.qubits
+linked_gate line g = on_qubits line (gate_named g.name.text) g.qubits
 
 -- the bit that a measurement is written to
 abbrev pub outcome_cell : ℕ → TypedCell → Result (Option Cell) LoadFault

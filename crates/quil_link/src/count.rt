@@ -4,7 +4,7 @@ ghost use Rattle.std.specs.Prelude.{◌≡◌};
 ghost use Rattle.std.specs.Result.{result_err};
 ghost use Rattle.quil_link.specs.Counted.{arity, has_arity, is_fitting, wrong_arity, counted};
 
-use crate::gate::{Standard, standard_gate};
+use crate::gate::{Standard, gate_named};
 use quil_code::LoadFault;
 use quil_tree::{Item, Line, Statement};
 
@@ -36,7 +36,7 @@ fn is_fitting(statement: &Statement) -> bool
     match statement {
         Statement::Gate(gate) => has_arity(
             gate.qubits.as_slice().len(),
-            standard_gate(gate.name.text.as_bytes()),
+            gate_named(gate.name.text.as_bytes()),
         ),
         _ => true,
     }

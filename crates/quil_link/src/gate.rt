@@ -4,7 +4,7 @@ ghost use Rattle.std.specs.Prelude.{◌≡◌};
 ghost use Rattle.std.specs.Result.{result_err};
 ghost use Rattle.std.specs.List.{list_all};
 ghost use Rattle.quil_link.specs.Passes.{first_of};
-ghost use Rattle.quil_link.specs.Built.{standard_gate, qubit_number, is_number, is_number_if_any, is_built_gate, is_built_operand, is_built, not_built};
+ghost use Rattle.quil_link.specs.Built.{gate_named, qubit_number, is_number, is_number_if_any, is_built_gate, is_built_operand, is_built, not_built};
 
 use quil_code::LoadFault;
 use quil_tree::{Gate, Item, Operand, Qubit, Statement};
@@ -21,8 +21,8 @@ pub(crate) enum Standard {
 }
 
 /// The gate of a name.
-pub(crate) fn standard_gate(name: &[u8]) -> Option<Standard>
-    ensures { result ≡ standard_gate name.now }
+pub(crate) fn gate_named(name: &[u8]) -> Option<Standard>
+    ensures { result ≡ gate_named name.now }
 {
     if name == b"X".as_slice() {
         Some(Standard::X)
@@ -77,7 +77,7 @@ fn is_built_gate(gate: &Gate) -> bool
 {
     gate.modifiers.as_slice().is_empty()
         && gate.parameters.as_slice().is_empty()
-        && standard_gate(gate.name.text.as_bytes()).is_some()
+        && gate_named(gate.name.text.as_bytes()).is_some()
         && are_numbers(gate.qubits.as_slice())
 }
 

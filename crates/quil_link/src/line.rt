@@ -9,7 +9,7 @@ ghost use Rattle.quil_link.specs.Types as types;
 ghost use Rattle.quil_link.specs.Linked as linked;
 ghost use Rattle.quil_link.specs.Steps.{IsLinked, AreLinked, OrWantsMemory};
 
-use crate::gate::{Standard, qubit_number, standard_gate};
+use crate::gate::{Standard, gate_named, qubit_number};
 use crate::term::{cell_at, span_named, term_at};
 use crate::types::{
     cell_as, typed_bits, typed_comparison, typed_convert, typed_exchange, typed_load, typed_move,
@@ -85,7 +85,7 @@ fn linked_gate(line: u32, gate: &Gate) -> Result<Instruction, LoadFault>
     ensures fits { (bits : ℕ) → IfOk result (λ i. IsLinked i bits) }
 {
     let qubits = gate.qubits.as_slice();
-    match standard_gate(gate.name.text.as_bytes()) {
+    match gate_named(gate.name.text.as_bytes()) {
         Some(Standard::X) => Ok(Instruction::X(one_qubit(line, qubits)?)),
         Some(Standard::H) => Ok(Instruction::H(one_qubit(line, qubits)?)),
         Some(Standard::Cnot) => linked_cnot(line, qubits),

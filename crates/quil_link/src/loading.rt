@@ -48,7 +48,7 @@ fn load_tree(alloc: Global, items: &[Item]) -> Result<Code, LoadFault>
     numbered(alloc, layout, lines)
 }
 
-/// The program of a Quil text of the part that is built: declarations, the gates X, H and CNOT, MEASURE, WAIT, NOP, HALT,
+/// The program of a Quil text of the part that is built: declarations, the gates X, H and CNOT, MEASURE, RESET, WAIT, NOP, HALT,
 /// pragmas, and classical instructions whose operands are addresses and whole numbers.
 ///
 /// A text is refused with the fault of the first pass that finds one, and in a pass with the first one in the order of the

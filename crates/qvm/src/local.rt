@@ -88,7 +88,7 @@ pub fn local_main<S: Source, K: Sink>(
     ensures reads_nothing { command_of (map string_bytes words.now) ≡ None → source.new ≡ source.old }
     ensures one_end { EndsOnceAtMost (S.ends source.old) (S.ends source.new) (S.saw_end source.new) }
     ensures read_fault { (options : RunOptions) → command_of (map string_bytes words.now) ≡ Some (Command.Run options) → result ≡ 6 → sink.new ≡ sink.old }
-    ensures no_memory { result ≡ 8 → sink.new ≡ sink.old }
+    ensures no_memory { (options : RunOptions) → command_of (map string_bytes words.now) ≡ Some (Command.Run options) → result ≡ 8 → sink.new ≡ sink.old }
     ensures source_count { NeverFalls (S.faults source.old) (S.faults source.new) }
     ensures sink_count { NeverFalls (K.faults sink.old) (K.faults sink.new) }
 {

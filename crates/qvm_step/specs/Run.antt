@@ -25,7 +25,7 @@ abbrev pub end_at_wait : ℕ → End
 end_at_wait zero = StepLimit
 end_at_wait (suc n) = Waiting
 
--- the run of at most so many steps, from a machine that has drawn so many words; a word is drawn exactly at MEASURE
+-- the run of at most so many steps, from a machine that has drawn so many words; a word is drawn exactly where a step needs one
 unfoldable pub finished : ℕ → Program → List ℕ → Quantum → ℕ → Finished
 finished zero program seed m draws = record { machine = m; draws = draws; end = StepLimit }
 finished (suc n) program seed m draws = elim (step program m (draw seed draws)) [
