@@ -1,0 +1,4 @@
+pub mod Divisors
+pub mod Fractions
+pub mod Quotients
+pub mod Roots

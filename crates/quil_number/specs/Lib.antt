@@ -1,0 +1,4 @@
+pub mod Divisor
+pub mod Fraction
+pub mod Root
+pub mod Decimal

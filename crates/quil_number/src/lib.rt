@@ -1,0 +1,17 @@
+//! Whole numbers and fractions, exactly: the greatest common divisor, lowest terms, square roots, and the value of a
+//! decimal literal of any length.
+//!
+//! The definitions of `specs/` have no width. The functions work in 128 bits, and say for which numbers. `laws` has what
+//! the definitions mean: the common divisor is the greatest one, equal fractions have one form in lowest terms, and where
+//! there is no root, no number's square is the one asked for.
+#![tactic(auto)]
+
+mod divisor;
+mod fraction;
+mod laws;
+mod square_root;
+
+pub use divisor::gcd;
+pub use fraction::{Fraction, lowest};
+pub use laws::lowest_terms_are_unique;
+pub use square_root::{fraction_root, root};
