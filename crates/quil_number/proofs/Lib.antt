@@ -1,4 +1,6 @@
 pub mod Divisors
 pub mod Fractions
+pub mod Numerals
 pub mod Quotients
 pub mod Roots
+pub mod Tenths

@@ -5,6 +5,9 @@ ghost use Rattle.quil_number.specs.Fraction.{lowest};
 
 use crate::divisor::gcd;
 
+/// No p and no q of a value is above this.
+pub(crate) const BOUND: u128 = 1 << 62;
+
 /// The fraction p/q.
 #[derive(Clone, Copy, Debug, PartialEq, Eq)]
 pub struct Fraction {

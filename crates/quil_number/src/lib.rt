@@ -6,9 +6,12 @@
 //! there is no root, no number's square is the one asked for.
 #![tactic(auto)]
 
+mod digits;
 mod divisor;
 mod fraction;
 mod laws;
+mod part;
+mod places;
 mod square_root;
 
 pub use divisor::gcd;
