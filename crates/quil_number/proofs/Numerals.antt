@@ -1,10 +1,13 @@
 -- The numbers that digits write.
-use Rattle.std.proofs.Common.{◌≡◌, ℕ, zero, suc, ◌+◌, ◌-◌, ◌*◌, ◌^◌, ◌<◌, ◌≤◌, min, inl, inr, Bool, true, false, cond, List, [], ◌∷◌, ◌++◌, length, take, drop, get_or, add-one, refl, sym, ◌∙◌, ap, subst, arith, le_refl, ℤ, pos, negsuc, neg_ℤ}
+use Rattle.std.proofs.Common.{◌≡◌, ℕ, zero, suc, ◌+◌, ◌-◌, ◌*◌, ◌^◌, ◌<◌, ◌≤◌, min, inl, inr, Bool, true, false, cond, List, [], ◌∷◌, ◌++◌, length, take, drop, get_or, add-one, replicate, ◌&&◌, lit<, refl, sym, ◌∙◌, ap, subst, arith, le_refl, ℤ, pos, negsuc, neg_ℤ}
 use Rattle.std.specs.List.{list_all, prefix_len}
 use Rattle.std.specs.Char.{is_ascii_digit}
 use Rattle.std.proofs.lemmas.Bool.{and_parts, cases_lt, cases_Bool}
 use Rattle.std.proofs.Math.Seq.{drop-cons}
-use Rattle.std.proofs.Math.Nat.{pow-suc, pow-zero, mul-one}
+use Rattle.std.proofs.Math.Nat.{pow-suc, pow-zero, mul-one, mul-le-mul_right}
+use Rattle.std.proofs.lemmas.Bool.Decides.{nat_tests}
+use Rattle.std.proofs.lemmas.List.{take-append-drop}
+use Rattle.std.proofs.lemmas.List.Folds.{list_all-append}
 use Rattle.quil_number.specs.Decimal.{digits, number_behind, number}
 use Rattle.quil_number.specs.Capped.{clamped}
 
@@ -51,3 +54,65 @@ number_step c n r i w ds h e inv =
 pub clamped_negative : (c n : ℕ) → neg_ℤ (pos (min n c)) ≡ clamped c (neg_ℤ (pos n))
 clamped_negative c zero = let z : min 0 c ≡ 0 = omega arith in rw z refl
 clamped_negative c (suc n) = refl
+
+-- the digits at the front are digits
+pub all_passed : (p : ℕ → Bool) (xs : List ℕ) → list_all p (take (prefix_len p xs) xs) ≡ true
+all_passed p [] = refl
+all_passed p (x ∷ xs) = elim (cases_Bool (p x)) [
+    inl holds ↦ rw (holds, one-add (prefix_len p xs)) (rw holds (all_passed p xs))
+  | inr fails ↦ rw fails refl
+  ]
+  where
+    one-add : (n : ℕ) → 1 + n ≡ suc n
+    one-add n = omega arith
+
+pub all_digits : (xs ys : List ℕ) → ys ≡ digits xs → list_all is_ascii_digit ys ≡ true
+all_digits xs ys e = subst (λ l. list_all is_ascii_digit l ≡ true) (sym e) (all_passed is_ascii_digit xs)
+
+pub all_taken : (p : ℕ → Bool) (xs : List ℕ) (k : ℕ) → list_all p xs ≡ true → (list_all p (take k xs) ≡ true) × (list_all p (drop k xs) ≡ true)
+all_taken p xs k h =
+    let whole : (list_all p (take k xs) && list_all p (drop k xs)) ≡ true = sym (list_all-append p (take k xs) (drop k xs)) ∙ ap (list_all p) (take-append-drop k xs) ∙ h in
+    and_parts _ _ whole
+
+-- digits that are all 0
+pub all_zeros : (k : ℕ) → list_all is_ascii_digit (replicate k 48) ≡ true
+all_zeros zero = refl
+all_zeros (suc k) = all_zeros k
+
+pub number_of_zeros : (n k : ℕ) → number_behind n (replicate k 48) ≡ n * 10 ^ k
+number_of_zeros n zero = sym (mul-one n)
+number_of_zeros n (suc k) = number_of_zeros (n * 10 + (48 - 48)) k ∙ turned n (10 ^ k) (10 ^ suc k) (pow-suc 10 k)
+  where
+    turned : (n t u : ℕ) → u ≡ t * 10 → (n * 10 + (48 - 48)) * t ≡ n * u
+    turned n t u e = rw e (omega arith)
+
+pub digit_small : (d : ℕ) → is_ascii_digit d ≡ true → d - 48 < 10
+digit_small d e = grind (arith, nat_tests)
+
+-- digits write less than ten to their number
+pub number_below : (ds : List ℕ) → list_all is_ascii_digit ds ≡ true → number ds < 10 ^ length ds
+number_below [] h = lit< tt
+number_below (d ∷ ds) h =
+    let both = and_parts (is_ascii_digit d) (list_all is_ascii_digit ds) h in
+    let rest : number ds < 10 ^ length ds = number_below ds both.1 in
+    let small : d - 48 < 10 = digit_small d both.0 in
+    let e : number (d ∷ ds) ≡ (0 * 10 + (d - 48)) * 10 ^ length ds + number ds = number_behind_is (0 * 10 + (d - 48)) ds in
+    let rows : (0 * 10 + (d - 48)) * 10 ^ length ds ≤ 9 * 10 ^ length ds = mul-le-mul_right (10 ^ length ds) (omega arith) in
+    let power : 10 ^ suc (length ds) ≡ 10 ^ length ds * 10 = pow-suc 10 (length ds) in
+    omega (arith, e, rows, power)
+
+take_replicate : (k m x : ℕ) → k ≤ m → take k (replicate m x) ≡ replicate k x
+take_replicate zero m x h = refl
+take_replicate (suc k) zero x h = absurd (omega arith)
+take_replicate (suc k) (suc m) x h = ap (λ l. x ∷ l) (take_replicate k m x (omega arith))
+
+pub zeros_taken : (k : ℕ) → k ≤ 18 → take {A = ℕ} k (replicate {A = ℕ} 18 48) ≡ replicate {A = ℕ} k 48
+zeros_taken k h = take_replicate k 18 48 h
+
+pub zeros_pass : (k : ℕ) → k ≤ 18 → list_all is_ascii_digit (take {A = ℕ} k (replicate {A = ℕ} 18 48)) ≡ true
+zeros_pass k h = (all_taken is_ascii_digit (replicate {A = ℕ} 18 48) k refl).0
+
+-- two lists of digits, each cut at a bound
+pub capped-append : (c s r : ℕ) (xs ys : List ℕ) → s ≡ min (number xs) c → r ≡ min (number_behind s ys) c → r ≡ min (number (xs ++ ys)) c
+capped-append c s r xs ys e f =
+    f ∙ ap (λ n. min (number_behind n ys) c) e ∙ capped_behind c (number xs) ys ∙ ap (λ n. min n c) (sym (number_behind-append 0 xs ys))

@@ -1,7 +1,7 @@
 //! Digits in a text, and the numbers that they write.
 
-ghost use Rattle.std.specs.Prelude.{◌≡◌, ◌≤◌, ◌^◌, List, ℤ, ℕ, pos, neg_ℤ, min, length, ◌+◌};
-ghost use Rattle.std.specs.List.{prefix_len};
+ghost use Rattle.std.specs.Prelude.{◌≡◌, ◌≤◌, ◌^◌, List, ℤ, ℕ, pos, neg_ℤ, true, min, length, ◌+◌};
+ghost use Rattle.std.specs.List.{prefix_len, list_all};
 ghost use Rattle.std.specs.Char.{is_ascii_digit};
 ghost use Rattle.quil_number.specs.Decimal.{digits, behind_digits, fraction_digits, behind_fraction, number_behind, number, signed_number, exponent};
 ghost use Rattle.quil_number.specs.Capped.{clamped};
@@ -23,9 +23,11 @@ fn digits_len(text: &[u8]) -> usize
 }
 
 /// The digits at the front of a text, and what stands behind them.
+#[tactic(auto, using(crate::proofs::Numerals::all_digits))]
 pub(crate) fn digits(text: &[u8]) -> (&[u8], &[u8])
     ensures front { result.0.now ≡ digits text.now }
     ensures behind { result.1.now ≡ behind_digits text.now }
+    ensures all { list_all is_ascii_digit result.0.now ≡ true }
 {
     text.split_at(digits_len(text))
 }
@@ -34,6 +36,7 @@ pub(crate) fn digits(text: &[u8]) -> (&[u8], &[u8])
 pub(crate) fn fraction_digits(text: &[u8]) -> (&[u8], &[u8])
     ensures front { result.0.now ≡ fraction_digits text.now }
     ensures behind { result.1.now ≡ behind_fraction text.now }
+    ensures all { list_all is_ascii_digit result.0.now ≡ true }
 {
     match text {
         [b'.', rest @ ..] => digits(rest),

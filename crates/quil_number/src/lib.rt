@@ -10,10 +10,12 @@ mod digits;
 mod divisor;
 mod fraction;
 mod laws;
+mod literal;
 mod part;
 mod places;
 mod square_root;
 
+pub use literal::decimal;
 pub use divisor::gcd;
 pub use fraction::{Fraction, lowest};
 pub use laws::lowest_terms_are_unique;
