@@ -1,5 +1,6 @@
 pub mod Divisors
 pub mod Fractions
+pub mod Meanings
 pub mod Numerals
 pub mod Points
 pub mod Quotients

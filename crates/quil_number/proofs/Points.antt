@@ -1,6 +1,6 @@
 -- The point moved among digits.
-use Rattle.std.proofs.Common.{◌≡◌, ℕ, zero, suc, ◌+◌, ◌-◌, ◌*◌, ◌^◌, ◌<◌, ◌≤◌, min, Some, None, List, [], ◌∷◌, ◌++◌, length, take, drop, replicate, nat_abs, refl, sym, ◌∙◌, ap, ap₂, subst, arith, append-nil, append_assoc, length-append, length-drop, ℤ, pos, negsuc, neg_ℤ, true, false, to_z, of_z, FitsSigned}
-use Rattle.std.specs.Prelude.{Option, ◌-ℤ◌, int_le}
+use Rattle.std.proofs.Common.{◌≡◌, ℕ, zero, suc, ◌+◌, ◌-◌, ◌*◌, ◌^◌, ◌<◌, ◌≤◌, min, Ok, List, [], ◌∷◌, ◌++◌, length, take, drop, replicate, nat_abs, refl, sym, ◌∙◌, ap, ap₂, subst, arith, append-nil, append_assoc, length-append, length-drop, ℤ, pos, negsuc, neg_ℤ, true, false, to_z, of_z, FitsSigned}
+use Rattle.std.specs.Prelude.{Result, ◌-ℤ◌, int_le}
 use Rattle.std.specs.Int.{IsGcd, w128}
 use Rattle.std.specs.List.{list_all}
 use Rattle.std.specs.Char.{is_ascii_digit}
@@ -11,6 +11,7 @@ use Rattle.std.proofs.lemmas.Bool.Decides.{nat_tests}
 use Rattle.std.proofs.lemmas.Int.{ints, to_z-of_z}
 use Rattle.std.proofs.Math.Nat.{zero-mul}
 use Rattle.quil_number.specs.declared.fraction.Fraction.{Fraction}
+use Rattle.quil_number.specs.declared.fraction.TooWide.{TooWide}
 use Rattle.quil_number.specs.Fraction.{lowest, within}
 use Rattle.quil_number.specs.Decimal.{digits, behind_digits, fraction_digits, behind_fraction, exponent, number, number_behind, scaled, decimal_value}
 use Rattle.quil_number.specs.Capped.{clamped}
@@ -102,12 +103,12 @@ lowered_exponent c u z x f e h k =
 zero_lowest : (a b : ℕ) → a ≡ 0 → 0 < b → lowest (pos a) b ≡ record { p = pos 0; q = 1 }
 zero_lowest a b h some = rw h (lowest_is 0 1 0 b some (IsGcd-swap 1 0 1 (IsGcd-from_zero 1 0 refl)) (zero-mul b))
 
-pub zero_value : (m : ℕ) (e : ℤ) → m ≡ 0 → Some (record { p = pos 0; q = 1 }) ≡ within (scaled m e)
+pub zero_value : (m : ℕ) (e : ℤ) → m ≡ 0 → Ok (record { p = pos 0; q = 1 }) ≡ within (scaled m e)
 zero_value m (pos k) h =
     let z : m * 10 ^ k ≡ 0 = ap (λ n. n * 10 ^ k) h ∙ zero-mul (10 ^ k) in
     sym (ap within (zero_lowest (m * 10 ^ k) 1 z (omega arith)))
 zero_value m (negsuc k) h = sym (ap within (zero_lowest m (10 ^ suc k) h (ten_some (suc k))))
 
-pub decimal_is : (text whole rest places last : List ℕ) (r : Option Fraction) → whole ≡ digits text → rest ≡ behind_digits text → places ≡ fraction_digits rest → last ≡ behind_fraction rest → r ≡ within (scaled (number (whole ++ places)) (exponent last -ℤ pos (length places))) → r ≡ within (decimal_value text)
+pub decimal_is : (text whole rest places last : List ℕ) (r : Result Fraction TooWide) → whole ≡ digits text → rest ≡ behind_digits text → places ≡ fraction_digits rest → last ≡ behind_fraction rest → r ≡ within (scaled (number (whole ++ places)) (exponent last -ℤ pos (length places))) → r ≡ within (decimal_value text)
 unfolding decimal_value
 decimal_is text whole rest places last r a b c d h = rw (d, c, b, a) at h

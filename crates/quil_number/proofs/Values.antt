@@ -1,5 +1,5 @@
 -- The value of digits with a point among them.
-use Rattle.std.proofs.Common.{◌≡◌, ℕ, zero, suc, ◌+◌, ◌-◌, ◌*◌, ◌/◌, ◌^◌, ◌<◌, ◌≤◌, ◌⊎◌, inl, inr, min, Bool, true, false, ◌&&◌, Some, None, List, [], ◌∷◌, ◌++◌, length, nat_abs, refl, sym, ◌∙◌, ap, ap₂, subst, arith, append-nil, append_assoc, length-append, add-suc, lit<, ℤ, pos, negsuc, neg_ℤ}
+use Rattle.std.proofs.Common.{◌≡◌, ℕ, zero, suc, ◌+◌, ◌-◌, ◌*◌, ◌/◌, ◌^◌, ◌<◌, ◌≤◌, ◌⊎◌, inl, inr, min, Bool, true, false, ◌&&◌, Ok, Err, List, [], ◌∷◌, ◌++◌, length, nat_abs, refl, sym, ◌∙◌, ap, ap₂, subst, arith, append-nil, append_assoc, length-append, add-suc, lit<, ℤ, pos, negsuc, neg_ℤ}
 use Rattle.std.specs.Prelude.{nat_le, ◌-ℤ◌}
 use Rattle.std.specs.Int.{IsGcd, ◌∣◌}
 use Rattle.std.proofs.lemmas.Bool.{cases_lt}
@@ -9,8 +9,9 @@ use Rattle.std.proofs.lemmas.Nat.Gcd.{IsGcd-swap, dvd_trans, le_of_dvd}
 use Rattle.std.proofs.lemmas.Int.{ints}
 use Rattle.std.proofs.Math.Nat.{pow-suc, pow-zero, mul-one, mul_comm, dvd-mul_left, dvd-mul_right, dvd-mul_left_of_dvd, one-dvd, zero-mul, dvd-add_iff_right, eq_of_mul-eq-mul_left, le_of_mul-le-mul_right, lt_of_mul-lt-mul_right, mul-le-mul, mul-le-mul_left, mul-le-mul_right, pow-le-pow_right}
 use Rattle.quil_number.specs.declared.fraction.Fraction.{Fraction}
+use Rattle.quil_number.specs.declared.fraction.TooWide.TheVariants.{Numerator, Denominator}
 use Rattle.quil_number.specs.Divisor.{common_divisor}
-use Rattle.quil_number.specs.Fraction.{lowest, within, is_within}
+use Rattle.quil_number.specs.Fraction.{lowest, within}
 use Rattle.quil_number.specs.Decimal.{number, scaled}
 use Rattle.quil_number.specs.Places.{AreFraction, AreTooFine}
 use Rattle.quil_number.proofs.Divisors.{common_divisor_is}
@@ -22,34 +23,26 @@ pub ten_some : (k : ℕ) → 0 < 10 ^ k
 ten_some zero = rw (pow-zero 10) (omega arith)
 ten_some (suc k) = let e : 10 ^ suc k ≡ 10 ^ k * 10 = pow-suc 10 k in let s : 0 < 10 ^ k = ten_some k in omega arith
 
--- a fraction with too wide a number is none of those within the bounds
-none_within : (p q : ℕ) → (2 ^ 62 < p) ⊎ (2 ^ 62 < q) → within (record { p = pos p; q = q }) ≡ None
-none_within p q (inl h) = let e : nat_le p (2 ^ 62) ≡ false = grind (arith, nat_tests) in rw e refl
-none_within p q (inr h) = let e : (nat_le p (2 ^ 62) && nat_le q (2 ^ 62)) ≡ false = grind (arith, nat_tests) in rw e refl
+-- the three verdicts
+within_is : (p q : ℕ) → p ≤ 2 ^ 62 → q ≤ 2 ^ 62 → within (record { p = pos p; q = q }) ≡ Ok (record { p = pos p; q = q })
+within_is p q h k = let e : nat_le q (2 ^ 62) ≡ true = grind (arith, nat_tests) in let f : nat_le p (2 ^ 62) ≡ true = grind (arith, nat_tests) in rw (e, f) refl
 
-some_within : (p q : ℕ) → p ≤ 2 ^ 62 → q ≤ 2 ^ 62 → within (record { p = pos p; q = q }) ≡ Some (record { p = pos p; q = q })
-some_within p q h k = let e : (nat_le p (2 ^ 62) && nat_le q (2 ^ 62)) ≡ true = grind (arith, nat_tests) in rw e refl
+wide_numerator : (p q : ℕ) → 2 ^ 62 < p → q ≤ 2 ^ 62 → within (record { p = pos p; q = q }) ≡ Err (Numerator q)
+wide_numerator p q h k = let e : nat_le q (2 ^ 62) ≡ true = grind (arith, nat_tests) in let f : nat_le p (2 ^ 62) ≡ false = grind (arith, nat_tests) in rw (e, f) refl
 
--- a/b in lowest terms, of which one number is too wide
-none_lowest : (a b : ℕ) → 0 < b → ((g : ℕ) → AreLowest a b g → (2 ^ 62 < a / g) ⊎ (2 ^ 62 < b / g)) → within (lowest (pos a) b) ≡ None
+-- a/b in lowest terms, where q is too wide
+wide_denominator : (a b : ℕ) → 0 < b → ((g : ℕ) → AreLowest a b g → 2 ^ 62 < b / g) → within (lowest (pos a) b) ≡ Err Denominator
 unfolding lowest
-none_lowest a b some h = let g = common_divisor a b in none_within (a / g) (b / g) (h g (divided a b g (common_divisor_is a b) some))
-
--- a value of more than 2^62
-wide_numerator : (a b w p q : ℕ) → 0 < b → w * b ≤ a → p * b ≡ a * q → 0 < q → w ≤ p
-wide_numerator a b w p q some h e s =
-    let one : a * 1 ≤ a * q = mul-le-mul_left a s in
-    let same : a * 1 ≡ a = mul-one a in
-    le_of_mul-le-mul_right (omega (arith, e, h, one, same)) some
-
-pub none_above : (a b w : ℕ) → 0 < b → w * b ≤ a → 2 ^ 62 < w → within (lowest (pos a) b) ≡ None
-none_above a b w some h wide =
-    none_lowest a b some (λ g x. inl (let more : w ≤ a / g = wide_numerator a b w (a / g) (b / g) some h x.equal x.some in omega arith))
+wide_denominator a b some h =
+    let g = common_divisor a b in
+    let more : 2 ^ 62 < b / g = h g (divided a b g (common_divisor_is a b) some) in
+    let e : nat_le (b / g) (2 ^ 62) ≡ false = grind (arith, nat_tests) in
+    rw e refl
 
 -- a value above 0 and so small that q is too wide
-wide_denominator : (a b s t p q g : ℕ) → 0 < a → a < s → s * t ≤ b → p * b ≡ a * q → p * g ≡ a → t ≤ q
-wide_denominator a b s t zero q g some small h e f = let z : 0 * g ≡ 0 = zero-mul g in absurd (omega (arith, z, f, some))
-wide_denominator a b s t (suc p) q g some small h e f =
+denominator_above : (a b s t p q g : ℕ) → 0 < a → a < s → s * t ≤ b → p * b ≡ a * q → p * g ≡ a → t ≤ q
+denominator_above a b s t zero q g some small h e f = let z : 0 * g ≡ 0 = zero-mul g in absurd (omega (arith, z, f, some))
+denominator_above a b s t (suc p) q g some small h e f =
     let whole : 1 * b ≤ suc p * b = mul-le-mul_right b (omega arith) in
     let rows : a * t ≤ s * t = mul-le-mul_right t (omega arith) in
     le_of_mul-le-mul_right {k = a} (omega (arith, e, h, whole, rows)) some
@@ -57,9 +50,9 @@ wide_denominator a b s t (suc p) q g some small h e f =
 product_below : (s t b : ℕ) → 0 < s → 0 < t → s * t ≤ b → 0 < b
 product_below s t b h k l = let one : 1 * 1 ≤ s * t = mul-le-mul h k in omega arith
 
-pub none_below : (a b s t : ℕ) → 0 < a → a < s → s * t ≤ b → 2 ^ 62 < t → within (lowest (pos a) b) ≡ None
-none_below a b s t some small h wide =
-    none_lowest a b (product_below s t b (omega arith) (omega arith) h) (λ g x. inr (let more : t ≤ b / g = wide_denominator a b s t (a / g) (b / g) g some small h x.equal x.numerator in omega arith))
+pub denominator_below : (a b s t : ℕ) → 0 < a → a < s → s * t ≤ b → 2 ^ 62 < t → within (lowest (pos a) b) ≡ Err Denominator
+denominator_below a b s t some small h wide =
+    wide_denominator a b (product_below s t b (omega arith) (omega arith) h) (λ g x. let more : t ≤ b / g = denominator_above a b s t (a / g) (b / g) g some small h x.equal x.numerator in omega arith)
 
 -- a multiple of q more leaves the greatest common divisor
 shifted_gcd : (w p q : ℕ) → IsGcd p q 1 → IsGcd (w * q + p) q 1
@@ -80,21 +73,15 @@ fine_denominator h t u n p q x y some above low e f =
     let same : x * u * q ≡ (h * q + p) * y = eq_of_mul-eq-mul_left t some _ _ whole in
     le_of_dvd above (divides_other q (h * q + p) y (IsGcd-swap _ _ 1 (shifted_gcd h p q low)) (subst (λ k. q ∣ k) same (dvd-mul_left q (x * u))))
 
-pub joined_fine : (ls rs : List ℕ) → AreTooFine rs → within (lowest (pos (number (ls ++ rs))) (10 ^ length rs)) ≡ None
+pub joined_fine : (ls rs : List ℕ) → AreTooFine rs → within (lowest (pos (number (ls ++ rs))) (10 ^ length rs)) ≡ Err Denominator
 joined_fine ls rs h =
-    none_lowest (number (ls ++ rs)) (10 ^ length rs) (ten_some (length rs)) (λ g x. inr (
+    wide_denominator (number (ls ++ rs)) (10 ^ length rs) (ten_some (length rs)) (λ g x.
       let a : number (ls ++ rs) ≡ number (ls ++ h.front) * 10 ^ length h.last + number h.last = ap (λ l. number (ls ++ l)) h.split ∙ number_split ls h.front h.last in
       let b : 10 ^ length rs ≡ 10 ^ length h.front * 10 ^ length h.last = ap (λ l. 10 ^ length l) h.split ∙ power_split h.front h.last in
       let same = sym (ap (λ k. number (ls ++ rs) / g * k) b) ∙ x.equal ∙ ap (λ k. k * (10 ^ length rs / g)) a in
       let more : h.q ≤ 10 ^ length rs / g = fine_denominator (number (ls ++ h.front)) (10 ^ length h.last) (10 ^ length h.front) (number h.last) h.p h.q (number (ls ++ rs) / g) (10 ^ length rs / g) (ten_some (length h.last)) x.some h.lowest h.equal.equal same in
       let wide : 2 ^ 62 < h.q = h.wide in
-      omega arith))
-
--- the whole part alone is too wide
-pub joined_wide : (ls rs : List ℕ) → 2 ^ 62 < number ls → within (lowest (pos (number (ls ++ rs))) (10 ^ length rs)) ≡ None
-joined_wide ls rs h =
-    let e : number (ls ++ rs) ≡ number ls * 10 ^ length rs + number rs = number-append ls rs in
-    none_above (number (ls ++ rs)) (10 ^ length rs) (number ls) (ten_some (length rs)) (omega arith) h
+      omega arith)
 
 joined_is : (ls rs : List ℕ) (p q : ℕ) → AreFraction rs p q → IsGcd p q 1 → lowest (pos (number (ls ++ rs))) (10 ^ length rs) ≡ record { p = pos (number ls * q + p); q = q }
 joined_is ls rs p q h low =
@@ -103,14 +90,21 @@ joined_is ls rs p q h low =
     in_numbers : (w t n a : ℕ) → p * t ≡ n * q → a ≡ w * t + n → (w * q + p) * t ≡ a * q
     in_numbers w t n a e f = rw f (omega (arith, e))
 
-pub joined_over : (ls rs : List ℕ) (w p q : ℕ) → w ≡ number ls → AreFraction rs p q → IsGcd p q 1 → 2 ^ 62 < w * q + p → within (lowest (pos (number (ls ++ rs))) (10 ^ length rs)) ≡ None
-joined_over ls rs w p q e h low wide = ap within (joined_is ls rs p q h low) ∙ none_within (number ls * q + p) q (inl (subst (λ n. 2 ^ 62 < n * q + p) e wide))
+-- p too wide by the whole part alone, or in the end
+pub joined_wide : (ls rs : List ℕ) (p q : ℕ) → AreFraction rs p q → IsGcd p q 1 → p < q → q ≤ 2 ^ 62 → 2 ^ 62 < number ls → within (lowest (pos (number (ls ++ rs))) (10 ^ length rs)) ≡ Err (Numerator q)
+joined_wide ls rs p q h low below narrow wide =
+    let rows : number ls * 1 ≤ number ls * q = mul-le-mul_left (number ls) (omega arith) in
+    let one : number ls * 1 ≡ number ls = mul-one (number ls) in
+    ap within (joined_is ls rs p q h low) ∙ wide_numerator (number ls * q + p) q (omega arith) narrow
 
-pub joined_within : (ls rs : List ℕ) (w p q : ℕ) → w ≡ number ls → AreFraction rs p q → IsGcd p q 1 → w * q + p ≤ 2 ^ 62 → q ≤ 2 ^ 62 → within (lowest (pos (number (ls ++ rs))) (10 ^ length rs)) ≡ Some (record { p = pos (w * q + p); q = q })
+pub joined_over : (ls rs : List ℕ) (w p q : ℕ) → w ≡ number ls → AreFraction rs p q → IsGcd p q 1 → q ≤ 2 ^ 62 → 2 ^ 62 < w * q + p → within (lowest (pos (number (ls ++ rs))) (10 ^ length rs)) ≡ Err (Numerator q)
+joined_over ls rs w p q e h low narrow wide = ap within (joined_is ls rs p q h low) ∙ wide_numerator (number ls * q + p) q (subst (λ n. 2 ^ 62 < n * q + p) e wide) narrow
+
+pub joined_within : (ls rs : List ℕ) (w p q : ℕ) → w ≡ number ls → AreFraction rs p q → IsGcd p q 1 → w * q + p ≤ 2 ^ 62 → q ≤ 2 ^ 62 → within (lowest (pos (number (ls ++ rs))) (10 ^ length rs)) ≡ Ok (record { p = pos (w * q + p); q = q })
 joined_within ls rs w p q e h low small narrow =
     ap within (joined_is ls rs p q h low)
     ∙ ap (λ n. within (let x : Fraction = record { p = pos (n * q + p); q = q } in x)) (sym e)
-    ∙ some_within (w * q + p) q small narrow
+    ∙ within_is (w * q + p) q small narrow
 
 -- ---- the point
 
@@ -127,20 +121,17 @@ pub placed_high : (ls : List ℕ) (m z : ℕ) (e : ℤ) → number ls ≡ m * 10
 placed_high ls m z e f g = rw (g, append-nil ls, f, pow-zero 10) refl
 
 -- digits that aren't all 0, with too many zeros behind them, or too far behind the point
-pub far_above : (m z : ℕ) (e : ℤ) → 0 < m → e ≡ pos z → 18 < z → within (scaled m e) ≡ None
+pub far_above : (m z : ℕ) (e : ℤ) → 0 < m → e ≡ pos z → 18 < z → within (scaled m e) ≡ Err (Numerator 1)
 far_above m z e some f h =
-    rw f (none_above (m * 10 ^ z) 1 (10 ^ 19) (omega arith) (large z h) (lit< tt))
-  where
-    large : (z : ℕ) → 18 < z → 10 ^ 19 * 1 ≤ m * 10 ^ z
-    large z h =
-        let power : 10 ^ 19 ≤ 10 ^ z = pow-le-pow_right {n = 10} (omega arith) h in
-        let rows : 1 * 10 ^ z ≤ m * 10 ^ z = mul-le-mul_right (10 ^ z) some in
-        omega (arith, power, rows)
+    let power : 10 ^ 19 ≤ 10 ^ z = pow-le-pow_right {n = 10} (omega arith) h in
+    let rows : 1 * 10 ^ z ≤ m * 10 ^ z = mul-le-mul_right (10 ^ z) some in
+    let whole : lowest (pos (m * 10 ^ z)) 1 ≡ record { p = pos (m * 10 ^ z); q = 1 } = lowest_is (m * 10 ^ z) 1 (m * 10 ^ z) 1 (omega arith) (one-dvd (m * 10 ^ z), one-dvd 1, λ d u v. v) refl in
+    rw f (ap within whole ∙ wide_numerator (m * 10 ^ z) 1 (omega arith) (omega arith))
 
-pub far_below : (m k z : ℕ) (e : ℤ) → 0 < m → m < 10 ^ k → e ≡ neg_ℤ (pos (k + z)) → 18 < z → within (scaled m e) ≡ None
+pub far_below : (m k z : ℕ) (e : ℤ) → 0 < m → m < 10 ^ k → e ≡ neg_ℤ (pos (k + z)) → 18 < z → within (scaled m e) ≡ Err Denominator
 far_below m k zero e some small f h = absurd (omega arith)
 far_below m k (suc z) e some small f h =
-    rw (f, add-suc k z) (none_below m (10 ^ suc (k + z)) (10 ^ k) (10 ^ 19) some small large (lit< tt))
+    rw (f, add-suc k z) (denominator_below m (10 ^ suc (k + z)) (10 ^ k) (10 ^ 19) some small large (lit< tt))
   where
     large : 10 ^ k * 10 ^ 19 ≤ 10 ^ suc (k + z)
     large =

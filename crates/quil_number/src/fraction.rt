@@ -15,6 +15,15 @@ pub struct Fraction {
     pub q: u128,
 }
 
+/// Which number of a fraction in lowest terms is above 2^62.
+#[derive(Clone, Copy, Debug, PartialEq, Eq)]
+pub enum TooWide {
+    /// p alone, and this is q.
+    Numerator(u128),
+    /// q, whatever p is.
+    Denominator,
+}
+
 /// The fraction p/q in lowest terms.
 pub fn lowest(p: i128, q: u128) -> Fraction
     requires numerator { nat_abs p < 2 ^ 127 }

@@ -17,6 +17,9 @@ mod square_root;
 
 pub use literal::decimal;
 pub use divisor::gcd;
-pub use fraction::{Fraction, lowest};
-pub use laws::lowest_terms_are_unique;
+pub use fraction::{Fraction, TooWide, lowest};
+pub use laws::{divisors_of_both, lowest_terms, lowest_terms_are_unique, roots_of_fractions, roots_of_numbers};
 pub use square_root::{fraction_root, root};
+
+#[cfg(test)]
+mod tests;

@@ -8,7 +8,7 @@ ghost use Rattle.quil_number.specs.Decimal.{number, scaled, decimal_value};
 ghost use Rattle.quil_number.specs.Places.{Are, AreTenths};
 
 use crate::digits::{digits, exponent, fraction_digits, number_behind};
-use crate::fraction::{BOUND, Fraction};
+use crate::fraction::{BOUND, Fraction, TooWide};
 use crate::part::Part;
 use crate::places::Places;
 
@@ -25,34 +25,34 @@ fn zeros(count: usize) -> &'static [u8]
 }
 
 // The whole part and a fraction behind the point, as one fraction.
-fn with_whole(whole: u128, part: Part) -> Option<Fraction>
+fn with_whole(whole: u128, part: Part) -> Result<Fraction, TooWide>
     ensures { (ls rs : List ℕ) → whole ≡ min (number ls) (2 ^ 65) → AreTenths rs part → result ≡ within (lowest (pos (number (ls ++ rs))) (10 ^ length rs)) }
 {
     if whole > BOUND {
-        return None;
+        return Err(TooWide::Numerator(part.q));
     }
     let p = whole * part.q + part.p;
     if p > BOUND {
-        return None;
+        return Err(TooWide::Numerator(part.q));
     }
-    Some(Fraction {
+    Ok(Fraction {
         p: p as i128,
         q: part.q,
     })
 }
 
 // The whole part and what stands behind the point, as one fraction. 2^65 is any whole part from there on.
-fn joined(whole: u128, places: Places) -> Option<Fraction>
+fn joined(whole: u128, places: Places) -> Result<Fraction, TooWide>
     ensures { (ls rs : List ℕ) → whole ≡ min (number ls) (2 ^ 65) → Are rs places → result ≡ within (lowest (pos (number (ls ++ rs))) (10 ^ length rs)) }
 {
     match places {
         Places::Exact(part) => with_whole(whole, part),
-        Places::TooFine => None,
+        Places::TooFine => Err(TooWide::Denominator),
     }
 }
 
 // The point moved to the right, by 2^65 places for any number from there on.
-fn raised(whole: &[u8], places: &[u8], by: u128) -> Option<Fraction>
+fn raised(whole: &[u8], places: &[u8], by: u128) -> Result<Fraction, TooWide>
     requires places { list_all is_ascii_digit places.now ≡ true }
     requires some { 0 < number (whole.now ++ places.now) }
     ensures { (n : ℕ) → by ≡ min n (2 ^ 65) → result ≡ within (scaled (number (whole.now ++ places.now)) (pos n -ℤ pos (length places.now))) }
@@ -67,7 +67,7 @@ fn raised(whole: &[u8], places: &[u8], by: u128) -> Option<Fraction>
     }
     let more = by - len;
     if more > 18 {
-        return None;
+        return Err(TooWide::Numerator(1));
     }
     let digits = number_behind(start, places);
     let number = number_behind(digits, zeros(more as usize));
@@ -75,7 +75,7 @@ fn raised(whole: &[u8], places: &[u8], by: u128) -> Option<Fraction>
 }
 
 // The point moved to the left, by 2^65 places for any number from there on.
-fn lowered(whole: &[u8], places: &[u8], by: u128) -> Option<Fraction>
+fn lowered(whole: &[u8], places: &[u8], by: u128) -> Result<Fraction, TooWide>
     requires whole { list_all is_ascii_digit whole.now ≡ true }
     requires places { list_all is_ascii_digit places.now ≡ true }
     requires some { 0 < number (whole.now ++ places.now) }
@@ -91,7 +91,7 @@ fn lowered(whole: &[u8], places: &[u8], by: u128) -> Option<Fraction>
     }
     let more = by - len;
     if more > 18 {
-        return None;
+        return Err(TooWide::Denominator);
     }
     let longer = tail.behind(whole);
     let longest = longer.behind(zeros(more as usize));
@@ -99,8 +99,9 @@ fn lowered(whole: &[u8], places: &[u8], by: u128) -> Option<Fraction>
 }
 
 /// The value of the decimal literal that a text begins with: digits, perhaps a point and digits, perhaps an exponent, each
-/// of any length. None where the value in lowest terms has a number above 2^62.
-pub fn decimal(text: &[u8]) -> Option<Fraction>
+/// of any length. What stands behind these, as the `i` of an imaginary literal, doesn't count. Refused where the value in
+/// lowest terms has a number above 2^62.
+pub fn decimal(text: &[u8]) -> Result<Fraction, TooWide>
     ensures { result ≡ within (decimal_value text.now) }
 {
     let (whole, rest) = digits(text);
@@ -109,7 +110,7 @@ pub fn decimal(text: &[u8]) -> Option<Fraction>
     let start = number_behind(0, whole);
     let number = number_behind(start, places);
     if number == 0 {
-        return Some(Fraction { p: 0, q: 1 });
+        return Ok(Fraction { p: 0, q: 1 });
     }
     if exponent >= 0 {
         raised(whole, places, exponent.unsigned_abs())
