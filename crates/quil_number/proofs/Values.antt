@@ -1,5 +1,5 @@
 -- The value of digits with a point among them.
-use Rattle.std.proofs.Common.{◌≡◌, ℕ, zero, suc, ◌+◌, ◌-◌, ◌*◌, ◌/◌, ◌^◌, ◌<◌, ◌≤◌, ◌⊎◌, inl, inr, min, Bool, true, false, ◌&&◌, Ok, Err, List, [], ◌∷◌, ◌++◌, length, nat_abs, refl, sym, ◌∙◌, ap, ap₂, subst, arith, append-nil, append_assoc, length-append, add-suc, lit<, ℤ, pos, negsuc, neg_ℤ}
+use Rattle.std.proofs.Common.{◌≡◌, ℕ, zero, suc, ◌+◌, ◌-◌, ◌*◌, ◌/◌, ◌^◌, ◌<◌, ◌≤◌, ◌⊎◌, inl, inr, min, Bool, true, false, ◌&&◌, Ok, Err, List, [], ◌∷◌, ◌++◌, length, nat_abs, refl, sym, ◌∙◌, ap, ap₂, subst, arith, append-nil, append_assoc, length-append, add-suc, lit<, lit≤, ℤ, pos, negsuc, neg_ℤ}
 use Rattle.std.specs.Prelude.{nat_le, ◌-ℤ◌}
 use Rattle.std.specs.Int.{IsGcd, ◌∣◌}
 use Rattle.std.proofs.lemmas.Bool.{cases_lt}
@@ -30,14 +30,13 @@ within_is p q h k = let e : nat_le q (2 ^ 62) ≡ true = grind (arith, nat_tests
 wide_numerator : (p q : ℕ) → 2 ^ 62 < p → q ≤ 2 ^ 62 → within (record { p = pos p; q = q }) ≡ Err (Numerator q)
 wide_numerator p q h k = let e : nat_le q (2 ^ 62) ≡ true = grind (arith, nat_tests) in let f : nat_le p (2 ^ 62) ≡ false = grind (arith, nat_tests) in rw (e, f) refl
 
+wide_q : (p q : ℕ) → 2 ^ 62 < q → within (record { p = pos p; q = q }) ≡ Err Denominator
+wide_q p q h = let e : nat_le q (2 ^ 62) ≡ false = grind (arith, nat_tests) in rw e refl
+
 -- a/b in lowest terms, where q is too wide
 wide_denominator : (a b : ℕ) → 0 < b → ((g : ℕ) → AreLowest a b g → 2 ^ 62 < b / g) → within (lowest (pos a) b) ≡ Err Denominator
 unfolding lowest
-wide_denominator a b some h =
-    let g = common_divisor a b in
-    let more : 2 ^ 62 < b / g = h g (divided a b g (common_divisor_is a b) some) in
-    let e : nat_le (b / g) (2 ^ 62) ≡ false = grind (arith, nat_tests) in
-    rw e refl
+wide_denominator a b some h = let g = common_divisor a b in wide_q (a / g) (b / g) (h g (divided a b g (common_divisor_is a b) some))
 
 -- a value above 0 and so small that q is too wide
 denominator_above : (a b s t p q g : ℕ) → 0 < a → a < s → s * t ≤ b → p * b ≡ a * q → p * g ≡ a → t ≤ q
@@ -121,12 +120,14 @@ pub placed_high : (ls : List ℕ) (m z : ℕ) (e : ℤ) → number ls ≡ m * 10
 placed_high ls m z e f g = rw (g, append-nil ls, f, pow-zero 10) refl
 
 -- digits that aren't all 0, with too many zeros behind them, or too far behind the point
+far_is : (t m : ℕ) → 10 ^ 19 ≤ t → 0 < m → 2 ^ 62 < m * t
+far_is t m h some = let rows : 1 * t ≤ m * t = mul-le-mul_right t some in omega arith
+
 pub far_above : (m z : ℕ) (e : ℤ) → 0 < m → e ≡ pos z → 18 < z → within (scaled m e) ≡ Err (Numerator 1)
 far_above m z e some f h =
     let power : 10 ^ 19 ≤ 10 ^ z = pow-le-pow_right {n = 10} (omega arith) h in
-    let rows : 1 * 10 ^ z ≤ m * 10 ^ z = mul-le-mul_right (10 ^ z) some in
     let whole : lowest (pos (m * 10 ^ z)) 1 ≡ record { p = pos (m * 10 ^ z); q = 1 } = lowest_is (m * 10 ^ z) 1 (m * 10 ^ z) 1 (omega arith) (one-dvd (m * 10 ^ z), one-dvd 1, λ d u v. v) refl in
-    rw f (ap within whole ∙ wide_numerator (m * 10 ^ z) 1 (omega arith) (omega arith))
+    rw f (ap within whole ∙ wide_numerator (m * 10 ^ z) 1 (far_is (10 ^ z) m power some) (lit≤ tt))
 
 pub far_below : (m k z : ℕ) (e : ℤ) → 0 < m → m < 10 ^ k → e ≡ neg_ℤ (pos (k + z)) → 18 < z → within (scaled m e) ≡ Err Denominator
 far_below m k zero e some small f h = absurd (omega arith)
