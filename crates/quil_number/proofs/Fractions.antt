@@ -55,6 +55,7 @@ scaled_from p q a b some h e =
   where
     turned : (p q k : ℕ) → p * (q * k) ≡ (k * p) * q
     turned p q k = omega arith
+
     factor_pos : (q k : ℕ) → 0 < q * k → 0 < k
     factor_pos q zero h = let z : q * 0 ≡ 0 = omega arith in absurd (omega (arith, z))
     factor_pos q (suc k) h = omega arith

@@ -1,5 +1,6 @@
 pub mod Divisors
 pub mod Fractions
+pub mod Literals
 pub mod Meanings
 pub mod Numerals
 pub mod Points

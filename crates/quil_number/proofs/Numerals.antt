@@ -34,13 +34,13 @@ number_grows n (b ∷ bs) = let more : n * 10 + (b - 48) ≤ number_behind (n * 
 -- a number that is cut before its last digits is cut in the end
 pub capped_behind : (c n : ℕ) (ds : List ℕ) → min (number_behind (min n c) ds) c ≡ min (number_behind n ds) c
 capped_behind c n ds = elim (cases_lt c n) [
-    inl over ↦
-        let cut : min n c ≡ c = omega arith in
-        let more : n ≤ number_behind n ds = number_grows n ds in
-        let less : c ≤ number_behind c ds = number_grows c ds in
-        rw cut (omega arith)
+  | inl over ↦
+      let cut : min n c ≡ c = omega arith in
+      let more : n ≤ number_behind n ds = number_grows n ds in
+      let less : c ≤ number_behind c ds = number_grows c ds in
+      rw cut (omega arith)
   | inr under ↦ let same : min n c ≡ n = omega arith in rw same refl
-  ]
+]
 
 -- one digit more
 pub number_step : (c n r i w : ℕ) (ds : List ℕ) → i < length ds → r ≡ min (n * 10 + (get_or ds i 0 - 48)) c → min (number_behind n (drop i ds)) c ≡ w → min (number_behind r (drop (i + 1) ds)) c ≡ w
@@ -59,9 +59,9 @@ clamped_negative c (suc n) = refl
 pub all_passed : (p : ℕ → Bool) (xs : List ℕ) → list_all p (take (prefix_len p xs) xs) ≡ true
 all_passed p [] = refl
 all_passed p (x ∷ xs) = elim (cases_Bool (p x)) [
-    inl holds ↦ rw (holds, one-add (prefix_len p xs)) (rw holds (all_passed p xs))
+  | inl holds ↦ rw (holds, one-add (prefix_len p xs)) (rw holds (all_passed p xs))
   | inr fails ↦ rw fails refl
-  ]
+]
   where
     one-add : (n : ℕ) → 1 + n ≡ suc n
     one-add n = omega arith

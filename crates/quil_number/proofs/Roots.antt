@@ -32,8 +32,8 @@ pub root_none : (n r : ℕ) → r * r < n → n < (r + 1) * (r + 1) → root n �
 unfolding root
 root_none n r low high =
     greatest_none (λ k. k * k == n) n (λ m bound. unequal (m * m) n (λ f. elim (cases_lt r m) [
-      inl over ↦ let more : (r + 1) * (r + 1) ≤ m * m = square_grows r m over in omega arith
-    | inr under ↦ let less : m * m ≤ r * r = mul-le-mul under under in omega arith
+      | inl over ↦ let more : (r + 1) * (r + 1) ≤ m * m = square_grows r m over in omega arith
+      | inr under ↦ let less : m * m ≤ r * r = mul-le-mul under under in omega arith
     ]))
 
 -- what the definition says

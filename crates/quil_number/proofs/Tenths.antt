@@ -26,10 +26,10 @@ divided a b g h some =
     let first : a / g * g ≡ a = div-mul_cancel g h.0 in
     let second : b / g * g ≡ b = div-mul_cancel g h.1 in
     let scaled : g * common_divisor (a / g) (b / g) ≡ g * 1 =
-      sym (common_divisor-scaled g (a / g) (b / g) bounds.0)
-      ∙ ap₂ common_divisor (mul-div_cancel' g h.0) (mul-div_cancel' g h.1)
-      ∙ common_divisor_from a b g h
-      ∙ sym (mul-one g) in
+    sym (common_divisor-scaled g (a / g) (b / g) bounds.0)
+    ∙ ap₂ common_divisor (mul-div_cancel' g h.0) (mul-div_cancel' g h.1)
+    ∙ common_divisor_from a b g h
+    ∙ sym (mul-one g) in
     let one : common_divisor (a / g) (b / g) ≡ 1 = eq_of_mul-eq-mul_left g bounds.0 _ 1 scaled in
     record {
       lowest = subst (λ d. IsGcd (a / g) (b / g) d) one (common_divisor_is (a / g) (b / g));

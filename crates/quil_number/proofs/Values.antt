@@ -75,12 +75,12 @@ fine_denominator h t u n p q x y some above low e f =
 pub joined_fine : (ls rs : List ℕ) → AreTooFine rs → within (lowest (pos (number (ls ++ rs))) (10 ^ length rs)) ≡ Err Denominator
 joined_fine ls rs h =
     wide_denominator (number (ls ++ rs)) (10 ^ length rs) (ten_some (length rs)) (λ g x.
-      let a : number (ls ++ rs) ≡ number (ls ++ h.front) * 10 ^ length h.last + number h.last = ap (λ l. number (ls ++ l)) h.split ∙ number_split ls h.front h.last in
-      let b : 10 ^ length rs ≡ 10 ^ length h.front * 10 ^ length h.last = ap (λ l. 10 ^ length l) h.split ∙ power_split h.front h.last in
-      let same = sym (ap (λ k. number (ls ++ rs) / g * k) b) ∙ x.equal ∙ ap (λ k. k * (10 ^ length rs / g)) a in
-      let more : h.q ≤ 10 ^ length rs / g = fine_denominator (number (ls ++ h.front)) (10 ^ length h.last) (10 ^ length h.front) (number h.last) h.p h.q (number (ls ++ rs) / g) (10 ^ length rs / g) (ten_some (length h.last)) x.some h.lowest h.equal.equal same in
-      let wide : 2 ^ 62 < h.q = h.wide in
-      omega arith)
+    let a : number (ls ++ rs) ≡ number (ls ++ h.front) * 10 ^ length h.last + number h.last = ap (λ l. number (ls ++ l)) h.split ∙ number_split ls h.front h.last in
+    let b : 10 ^ length rs ≡ 10 ^ length h.front * 10 ^ length h.last = ap (λ l. 10 ^ length l) h.split ∙ power_split h.front h.last in
+    let same = sym (ap (λ k. number (ls ++ rs) / g * k) b) ∙ x.equal ∙ ap (λ k. k * (10 ^ length rs / g)) a in
+    let more : h.q ≤ 10 ^ length rs / g = fine_denominator (number (ls ++ h.front)) (10 ^ length h.last) (10 ^ length h.front) (number h.last) h.p h.q (number (ls ++ rs) / g) (10 ^ length rs / g) (ten_some (length h.last)) x.some h.lowest h.equal.equal same in
+    let wide : 2 ^ 62 < h.q = h.wide in
+    omega arith)
 
 joined_is : (ls rs : List ℕ) (p q : ℕ) → AreFraction rs p q → IsGcd p q 1 → lowest (pos (number (ls ++ rs))) (10 ^ length rs) ≡ record { p = pos (number ls * q + p); q = q }
 joined_is ls rs p q h low =

@@ -20,7 +20,7 @@ pub struct Fraction {
 pub enum TooWide {
     /// p alone, and this is q.
     Numerator(u128),
-    /// q, whatever p is.
+    /// q, whatever p is. Whether it is a power of two isn't told.
     Denominator,
 }
 

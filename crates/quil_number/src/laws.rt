@@ -1,7 +1,10 @@
 //! What the definitions mean.
 
-ghost use Rattle.std.specs.Prelude.{◌≡◌, ◌≢◌, ◌<◌, ◌*◌, ◌*ℤ◌, ℕ, ℤ, pos, Some, None};
+ghost use Rattle.std.specs.Prelude.{◌≡◌, ◌≢◌, ◌<◌, ◌*◌, ◌*ℤ◌, ◌-ℤ◌, ℕ, ℤ, pos, neg_ℤ, Some, None, true, List, [], ◌∷◌, ◌++◌, length};
+ghost use Rattle.std.specs.Char.{is_ascii_digit};
 ghost use Rattle.std.specs.Int.{IsGcd};
+ghost use Rattle.std.specs.List.{list_all};
+ghost use Rattle.quil_number.specs.Decimal.{digits, number, scaled, decimal_value};
 ghost use Rattle.quil_number.specs.Divisor.{common_divisor};
 ghost use Rattle.quil_number.specs.Fraction.{lowest, IsLowest};
 ghost use Rattle.quil_number.specs.Root.{root, fraction_root};
@@ -33,4 +36,12 @@ pub fn roots_of_numbers()
 #[tactic(auto, using(crate::proofs::Meanings::no_fraction_root))]
 pub fn roots_of_fractions()
     ensures { (p q a b : ℕ) → IsGcd p q 1 → fraction_root (pos p) q ≡ None → 0 < b → a * a * q ≢ p * (b * b) }
+{}
+
+/// A literal of digits, a point (46), digits, an `e` (101), a sign (43 or 45) and digits is the number of its digits, times
+/// ten to its exponent less the count of its digits behind the point. What stands behind it begins with no digit.
+#[tactic(auto, using(crate::proofs::Literals::raised_literal, crate::proofs::Literals::lowered_literal))]
+pub fn parts_of_literals()
+    ensures plus { (ws fs es behind : List ℕ) → list_all is_ascii_digit ws ≡ true → list_all is_ascii_digit fs ≡ true → list_all is_ascii_digit es ≡ true → digits behind ≡ [] → decimal_value (ws ++ 46 ∷ fs ++ 101 ∷ 43 ∷ es ++ behind) ≡ scaled (number (ws ++ fs)) (pos (number es) -ℤ pos (length fs)) }
+    ensures minus { (ws fs es behind : List ℕ) → list_all is_ascii_digit ws ≡ true → list_all is_ascii_digit fs ≡ true → list_all is_ascii_digit es ≡ true → digits behind ≡ [] → decimal_value (ws ++ 46 ∷ fs ++ 101 ∷ 45 ∷ es ++ behind) ≡ scaled (number (ws ++ fs)) (neg_ℤ (pos (number es)) -ℤ pos (length fs)) }
 {}

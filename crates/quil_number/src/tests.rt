@@ -130,7 +130,11 @@ decimal 1e-36893488147419103233 => fine
             continue;
         };
         let (word, rest) = question.split_once(' ').unwrap_or((question, ""));
-        assert_eq!(&rt; answer(rt.alloc(), word, rest)?.as_str(), want, "at {row:?}");
+        assert_eq!(&rt;
+            answer(rt.alloc(), word, rest)?.as_str(),
+            want,
+            "at {row:?}"
+        );
     }
     Ok(())
 }
