@@ -1,28 +1,45 @@
 //! Questions with their answers by hand or by Python's fractions, and literals of a million digits.
 
 use crate::{Fraction, TooWide, decimal, fraction_root, gcd, lowest, root};
-use std::alloc::{AllocError, Global};
-use std::process::Abort;
-use std::test::Fail;
+use std::alloc::Global;
+use std::test::*;
 
-fn shown(alloc: Global, found: Option<Fraction>) -> Result<String, AllocError> {
-    match found {
+type Said = Result<String, Fail>;
+
+fn shown(alloc: Global, found: Option<Fraction>) -> Said {
+    let text = match found {
         Some(Fraction { p, q }) => format!(in alloc; "{p}/{q}"),
         None => format!(in alloc; "none"),
-    }
+    };
+    Ok(text?)
 }
 
-fn shown_value(alloc: Global, text: &[u8]) -> Result<String, AllocError> {
-    match decimal(text) {
-        Ok(found) => shown(alloc, Some(found)),
+fn shown_value(alloc: Global, text: &str) -> Said {
+    let text = match decimal(text.as_bytes()) {
+        Ok(Fraction { p, q }) => format!(in alloc; "{p}/{q}"),
         Err(TooWide::Numerator(q)) => format!(in alloc; "wide/{q}"),
         Err(TooWide::Denominator) => format!(in alloc; "fine"),
-    }
+    };
+    Ok(text?)
 }
 
-// A fraction `p q`, as far as it is one.
+fn shown_divisor(alloc: Global, numbers: &str) -> Said {
+    let (a, b) = numbers.split_once(" ").unwrap_or((numbers, "0"));
+    let found = gcd(a.parse().unwrap_or(0), b.parse().unwrap_or(0));
+    Ok(format!(in alloc; "{found}")?)
+}
+
+fn shown_root(alloc: Global, number: &str) -> Said {
+    let text = match root(number.parse().unwrap_or(0)) {
+        Some(found) => format!(in alloc; "{found}"),
+        None => format!(in alloc; "none"),
+    };
+    Ok(text?)
+}
+
+// A fraction `p q`.
 fn fraction(text: &str) -> Fraction {
-    let (p, q) = text.split_once(' ').unwrap_or((text, "1"));
+    let (p, q) = text.split_once(" ").unwrap_or((text, "1"));
     Fraction {
         p: p.parse().unwrap_or(0),
         q: q.parse().unwrap_or(1),
@@ -37,27 +54,21 @@ fn lowest_of(x: Fraction) -> Option<Fraction> {
     }
 }
 
-fn answer(alloc: Global, word: &str, rest: &str) -> Result<String, AllocError> {
+fn answer(alloc: Global, question: &str) -> Said {
+    let (word, rest) = question.split_once(" ").unwrap_or((question, ""));
     match word {
-        "gcd" => {
-            let (a, b) = rest.split_once(' ').unwrap_or((rest, "0"));
-            let found = gcd(a.parse().unwrap_or(0), b.parse().unwrap_or(0));
-            format!(in alloc; "{found}")
-        }
-        "root" => match root(rest.parse().unwrap_or(0)) {
-            Some(found) => format!(in alloc; "{found}"),
-            None => format!(in alloc; "none"),
-        },
+        "gcd" => shown_divisor(alloc, rest),
+        "root" => shown_root(alloc, rest),
         "lowest" => shown(alloc, lowest_of(fraction(rest))),
         "fraction_root" => shown(alloc, fraction_root(fraction(rest))),
-        _ => shown_value(alloc, rest.as_bytes()),
+        _ => shown_value(alloc, rest),
     }
 }
 
 #[test]
 fn questions_have_their_answers(rt: HostRuntime) -> Result<(), Fail> {
-    let table = "
-gcd 12 18 => 6
+    let alloc = rt.alloc();
+    let table = "gcd 12 18 => 6
 gcd 0 5 => 5
 gcd 5 0 => 5
 gcd 0 0 => 0
@@ -125,56 +136,45 @@ decimal 1e36893488147419103233 => wide/1
 decimal 1e-36893488147419103233 => fine
 ";
     for row in table.lines() {
-        let Some((question, want)) = row.split_once(" => ") else {
-            assert!(&rt; row.is_empty(), "at {row:?}");
-            continue;
-        };
-        let (word, rest) = question.split_once(' ').unwrap_or((question, ""));
-        assert_eq!(&rt;
-            answer(rt.alloc(), word, rest)?.as_str(),
-            want,
-            "at {row:?}"
-        );
+        let (question, want) = row.split_once(" => ").unwrap_or(("", ""));
+        let found = answer(alloc, question)?;
+        assert_eq!(rt; found.as_str(), want, "at {row}");
     }
     Ok(())
 }
 
-// A text, a count of digits and a text.
-fn long(alloc: Global, front: &str, digit: u8, back: &str) -> Result<Vec<u8>, AllocError> {
-    let mut text = Vec::new(alloc);
-    text.extend_from_slice(front.as_bytes())?;
+// A text `FRONT+DIGIT+BACK`, with the digit a million times.
+fn long(alloc: Global, form: &str) -> Said {
+    let (front, rest) = form.split_once("+").unwrap_or(("", ""));
+    let (digit, back) = rest.split_once("+").unwrap_or(("", ""));
+    let mut text = String::new(alloc);
+    text.push_str(front)?;
     for _ in 0..1_000_000 {
-        text.push(digit)?;
+        text.push_str(digit)?;
     }
-    text.extend_from_slice(back.as_bytes())?;
+    text.push_str(back)?;
     Ok(text)
 }
 
 #[test]
 fn a_million_digits(rt: HostRuntime) -> Result<(), Fail> {
-    let table = "
-1|0|e-1000000|1/1
-3|0|e-1000001|3/10
-0.|0|1e1000001|1/1
-1|3||wide/1
-0.|3||fine
-0.5|0||1/2
-1e|9||wide/1
-1e-|9||fine
-0e|9||0/1
-7e|0|2|700/1
+    let alloc = rt.alloc();
+    let table = "1+0+e-1000000 => 1/1
+3+0+e-1000001 => 3/10
+0.+0+1e1000001 => 1/1
+1+3+ => wide/1
+0.+3+ => fine
+0.5+0+ => 1/2
+1e+9+ => wide/1
+1e-+9+ => fine
+0e+9+ => 0/1
+7e+0+2 => 700/1
 ";
     for row in table.lines() {
-        let mut parts = row.split('|');
-        let front = parts.next().unwrap_or("");
-        let digit = parts.next().unwrap_or("").as_bytes().first().copied();
-        let back = parts.next().unwrap_or("");
-        let want = parts.next().unwrap_or("");
-        if let Some(digit) = digit {
-            let text = long(rt.alloc(), front, digit, back)?;
-            let found = shown_value(rt.alloc(), text.as_slice())?;
-            assert_eq!(&rt; found.as_str(), want, "at {row:?}");
-        }
+        let (form, want) = row.split_once(" => ").unwrap_or(("", ""));
+        let text = long(alloc, form)?;
+        let found = shown_value(alloc, &text)?;
+        assert_eq!(rt; found.as_str(), want, "at {row}");
     }
     Ok(())
 }
