@@ -1,9 +1,8 @@
 -- Lowest terms.
-use Rattle.std.proofs.Common.{◌≡◌, ℕ, zero, suc, ◌+◌, ◌*◌, ◌/◌, ◌<◌, ◌≤◌, refl, sym, ◌∙◌, ap, ap₂, subst, arith, ℤ, pos, negsuc}
+use Rattle.std.proofs.Common.{◌≡◌, ℕ, zero, suc, ◌*◌, ◌/◌, ◌<◌, sym, ◌∙◌, ap, ap₂, subst, arith, pos}
 use Rattle.std.specs.Int.{IsGcd, ◌∣◌}
-use Rattle.std.proofs.lemmas.Nat.Gcd.{IsGcd-swap, dvd_refl, dvd-zero, dvd_trans, dvd_antisymm, le_of_dvd}
-use Rattle.std.proofs.lemmas.Bool.{cases_lt}
-use Rattle.std.proofs.Math.Nat.{dvd-mul_left, dvd-mul_right, mul-dvd-mul_left, dvd_of_mul-dvd-mul_left, eq-one_of_dvd-one, mul-div_cancel', mul-div_cancel_left, eq_of_mul-eq-mul_right, mul_assoc, mul_comm, mul-one, one-dvd, mul-pos, pos_of_dvd_of_pos}
+use Rattle.std.proofs.lemmas.Nat.Gcd.{IsGcd-swap, dvd_refl, dvd-zero, dvd_antisymm}
+use Rattle.std.proofs.Math.Nat.{dvd-mul_left, dvd-mul_right, mul-dvd-mul_left, dvd_of_mul-dvd-mul_left, eq-one_of_dvd-one, mul-div_cancel', mul-div_cancel_left, eq_of_mul-eq-mul_right, mul_comm, mul-one, pos_of_dvd_of_pos}
 use Rattle.quil_number.specs.Divisor.{common_divisor}
 use Rattle.quil_number.specs.Fraction.{lowest}
 use Rattle.quil_number.specs.declared.fraction.Fraction.{Fraction}

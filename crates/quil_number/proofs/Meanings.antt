@@ -1,7 +1,6 @@
 -- What the definitions mean.
-use Rattle.std.proofs.Common.{◌≡◌, ℕ, zero, suc, ◌+◌, ◌*◌, ◌/◌, ◌<◌, Some, None, refl, sym, ◌∙◌, ap, ap₂, subst, arith, ℤ, pos, negsuc, neg_ℤ, nat_abs, ◌*ℤ◌}
-use Rattle.std.specs.Int.{IsGcd, ◌∣◌}
-use Rattle.std.specs.Prelude.{Option}
+use Rattle.std.proofs.Common.{◌≡◌, ℕ, zero, suc, ◌*◌, ◌/◌, ◌<◌, Some, None, refl, sym, ◌∙◌, ap, ap₂, subst, arith, ℤ, pos, negsuc, neg_ℤ, nat_abs, ◌*ℤ◌}
+use Rattle.std.specs.Int.{IsGcd}
 use Rattle.std.proofs.lemmas.Nat.Gcd.{IsGcd-swap, dvd_trans}
 use Rattle.std.proofs.lemmas.Int.{ints}
 use Rattle.std.proofs.Math.Nat.{one-dvd, eq_of_mul-eq-mul_right, mul-pos}
@@ -11,7 +10,7 @@ use Rattle.quil_number.specs.Fraction.{lowest, IsLowest}
 use Rattle.quil_number.specs.Root.{root, fraction_root, over_root}
 use Rattle.quil_number.proofs.Divisors.{common_divisor_is}
 use Rattle.quil_number.proofs.Fractions.{lowest_is, divides_other}
-use Rattle.quil_number.proofs.Tenths.{AreLowest, divided}
+use Rattle.quil_number.proofs.Tenths.{divided}
 use Rattle.quil_number.proofs.Roots.{root_is}
 
 negated_product : (p q a b : ℕ) → p * b ≡ a * q → neg_ℤ (pos p) *ℤ pos b ≡ neg_ℤ (pos a) *ℤ pos q

@@ -1,7 +1,7 @@
 -- The point moved among digits.
-use Rattle.std.proofs.Common.{◌≡◌, ℕ, zero, suc, ◌+◌, ◌-◌, ◌*◌, ◌^◌, ◌<◌, ◌≤◌, min, Ok, List, [], ◌∷◌, ◌++◌, length, take, drop, replicate, nat_abs, refl, sym, ◌∙◌, ap, ap₂, subst, arith, append-nil, append_assoc, length-append, length-drop, ℤ, pos, negsuc, neg_ℤ, true, false, to_z, of_z, FitsSigned}
+use Rattle.std.proofs.Common.{◌≡◌, ℕ, zero, suc, ◌+◌, ◌-◌, ◌*◌, ◌^◌, ◌<◌, ◌≤◌, min, Ok, List, [], ◌++◌, length, take, drop, replicate, nat_abs, refl, sym, ◌∙◌, ap, subst, arith, append-nil, append_assoc, length-append, length-drop, ℤ, pos, negsuc, neg_ℤ, true, false, to_z, of_z, FitsSigned}
 use Rattle.std.specs.Prelude.{Result, ◌-ℤ◌, int_le}
-use Rattle.std.specs.Int.{IsGcd, w128}
+use Rattle.std.specs.Int.{w128}
 use Rattle.std.specs.List.{list_all}
 use Rattle.std.specs.Char.{is_ascii_digit}
 use Rattle.std.proofs.lemmas.List.{take-append-drop, length-replicate}

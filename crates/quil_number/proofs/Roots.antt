@@ -1,12 +1,11 @@
 -- Square roots.
-use Rattle.std.proofs.Common.{◌≡◌, ℕ, zero, suc, ◌+◌, ◌*◌, ◌<◌, ◌≤◌, inl, inr, true, false, Some, None, refl, sym, ◌∙◌, ap, subst, arith, eq-eqb}
+use Rattle.std.proofs.Common.{◌≡◌, ℕ, zero, suc, ◌+◌, ◌*◌, ◌<◌, ◌≤◌, inl, inr, false, Some, None, arith, eq-eqb}
 use Rattle.std.specs.Prelude.{◌==◌}
-use Rattle.std.proofs.lemmas.Bool.{cases_lt, cases_order, cases_Bool}
+use Rattle.std.proofs.lemmas.Bool.{cases_lt, cases_Bool}
 use Rattle.std.proofs.lemmas.Bool.Decides.{Decides-eqb}
 use Rattle.std.proofs.Math.Nat.{mul-le-mul}
-use Rattle.quil_number.specs.Divisor.{greatest}
 use Rattle.quil_number.specs.Root.{root}
-use Rattle.quil_number.proofs.Divisors.{greatest_is, greatest_none, greatest_passes, greatest_fails}
+use Rattle.quil_number.proofs.Divisors.{greatest_is, greatest_none, greatest_passes}
 
 -- a test of equality fails where the numbers differ
 unequal : (a b : ℕ) → (a ≡ b → ⊥) → (a == b) ≡ false

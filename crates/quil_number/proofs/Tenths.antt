@@ -1,5 +1,5 @@
 -- One digit more in front of digits behind a point.
-use Rattle.std.proofs.Common.{◌≡◌, ℕ, zero, suc, ◌+◌, ◌-◌, ◌*◌, ◌/◌, ◌^◌, ◌<◌, ◌≤◌, List, [], ◌∷◌, ◌++◌, length, refl, sym, ◌∙◌, ap, ap₂, subst, arith, append_assoc, drop, get_or, true}
+use Rattle.std.proofs.Common.{◌≡◌, ℕ, suc, ◌+◌, ◌-◌, ◌*◌, ◌/◌, ◌^◌, ◌<◌, ◌≤◌, List, ◌∷◌, ◌++◌, length, sym, ◌∙◌, ap, ap₂, subst, arith, append_assoc, drop, get_or, true}
 use Rattle.std.specs.Int.{IsGcd, ◌∣◌}
 use Rattle.std.proofs.Math.Nat.{dvd-mul_right, pow-suc, mul-div_cancel', mul-one, mul_comm, eq_of_mul-eq-mul_left, lt_of_mul-lt-mul_right, div-mul_cancel, pos_of_dvd_of_pos, mul-lt-mul_of_pos_right, mul-le-mul_right}
 use Rattle.std.specs.Char.{is_ascii_digit}

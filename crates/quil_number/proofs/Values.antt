@@ -1,13 +1,11 @@
 -- The value of digits with a point among them.
-use Rattle.std.proofs.Common.{◌≡◌, ℕ, zero, suc, ◌+◌, ◌-◌, ◌*◌, ◌/◌, ◌^◌, ◌<◌, ◌≤◌, ◌⊎◌, inl, inr, min, Bool, true, false, ◌&&◌, Ok, Err, List, [], ◌∷◌, ◌++◌, length, nat_abs, refl, sym, ◌∙◌, ap, ap₂, subst, arith, append-nil, append_assoc, length-append, add-suc, lit<, lit≤, ℤ, pos, negsuc, neg_ℤ}
-use Rattle.std.specs.Prelude.{nat_le, ◌-ℤ◌}
+use Rattle.std.proofs.Common.{◌≡◌, ℕ, zero, suc, ◌+◌, ◌*◌, ◌/◌, ◌^◌, ◌<◌, ◌≤◌, true, false, Ok, Err, List, [], ◌++◌, length, refl, sym, ◌∙◌, ap, subst, arith, append-nil, append_assoc, length-append, add-suc, lit<, lit≤, ℤ, pos, neg_ℤ}
+use Rattle.std.specs.Prelude.{nat_le}
 use Rattle.std.specs.Int.{IsGcd, ◌∣◌}
-use Rattle.std.proofs.lemmas.Bool.{cases_lt}
 use Rattle.std.proofs.lemmas.Bool.Decides.{nat_tests}
 use Rattle.std.proofs.lemmas.Nat.{pow-add}
-use Rattle.std.proofs.lemmas.Nat.Gcd.{IsGcd-swap, dvd_trans, le_of_dvd}
-use Rattle.std.proofs.lemmas.Int.{ints}
-use Rattle.std.proofs.Math.Nat.{pow-suc, pow-zero, mul-one, mul_comm, dvd-mul_left, dvd-mul_right, dvd-mul_left_of_dvd, one-dvd, zero-mul, dvd-add_iff_right, eq_of_mul-eq-mul_left, le_of_mul-le-mul_right, lt_of_mul-lt-mul_right, mul-le-mul, mul-le-mul_left, mul-le-mul_right, pow-le-pow_right}
+use Rattle.std.proofs.lemmas.Nat.Gcd.{IsGcd-swap, le_of_dvd}
+use Rattle.std.proofs.Math.Nat.{pow-suc, pow-zero, mul-one, dvd-mul_left, dvd-mul_left_of_dvd, one-dvd, zero-mul, dvd-add_iff_right, eq_of_mul-eq-mul_left, le_of_mul-le-mul_right, mul-le-mul, mul-le-mul_left, mul-le-mul_right, pow-le-pow_right}
 use Rattle.quil_number.specs.declared.fraction.Fraction.{Fraction}
 use Rattle.quil_number.specs.declared.fraction.TooWide.TheVariants.{Numerator, Denominator}
 use Rattle.quil_number.specs.Divisor.{common_divisor}

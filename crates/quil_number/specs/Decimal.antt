@@ -1,6 +1,6 @@
 -- The number that a literal writes: digits, then perhaps a point and digits, then perhaps an exponent of ten.
 -- What stands behind these, as the `i` of an imaginary literal, doesn't count. Nothing here has a width.
-use Rattle.std.specs.Prelude.{ℕ, suc, ◌+◌, ◌-◌, ◌*◌, ◌^◌, ◌==◌, ℤ, pos, negsuc, ◌-ℤ◌, neg_ℤ, Bool, ◌||◌, List, [], ◌∷◌, ◌++◌, length, take, drop, if◌then◌else◌}
+use Rattle.std.specs.Prelude.{ℕ, suc, ◌+◌, ◌-◌, ◌*◌, ◌^◌, ◌==◌, ℤ, pos, negsuc, ◌-ℤ◌, neg_ℤ, ◌||◌, List, [], ◌∷◌, ◌++◌, length, take, drop, if◌then◌else◌}
 use Rattle.std.specs.List.{prefix_len}
 use Rattle.std.specs.Char.{is_ascii_digit}
 use Rattle.quil_number.specs.declared.fraction.Fraction.{Fraction}

@@ -1,5 +1,5 @@
 -- Exact square roots. Nothing here has a width.
-use Rattle.std.specs.Prelude.{ℕ, suc, ◌*◌, ◌==◌, ℤ, pos, negsuc, Option, Some, None}
+use Rattle.std.specs.Prelude.{ℕ, ◌*◌, ◌==◌, ℤ, pos, negsuc, Option, Some, None}
 use Rattle.quil_number.specs.declared.fraction.Fraction.{Fraction}
 use Rattle.quil_number.specs.Divisor.{greatest}
 

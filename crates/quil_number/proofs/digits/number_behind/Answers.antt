@@ -1,4 +1,4 @@
-use Rattle.std.proofs.Common.{◌≡◌, ◌+◌, ◌-◌, ap, ◌∙◌, get_or, arith, rules, min, ◌*◌, ◌^◌}
+use Rattle.std.proofs.Common.{◌+◌, ap, ◌∙◌, arith, rules, min, ◌*◌, ◌^◌}
 use Rattle.quil_number.proofs.Numerals.{number_step}
 use Rattle.quil_number.proofs.digits.number_behind.Goals as goal
 

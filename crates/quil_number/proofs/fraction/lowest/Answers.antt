@@ -1,4 +1,4 @@
-use Rattle.std.proofs.Common.{◌≡◌, ◌<◌, ◌^◌, ◌/◌, nat_abs, ap, ap₂, arith, sym, ◌∙◌, ℕ, ℤ, pos}
+use Rattle.std.proofs.Common.{◌≡◌, ◌/◌, nat_abs, ap, arith, ◌∙◌, ℕ, pos}
 use Rattle.std.specs.Prelude.{int_div}
 use Rattle.std.proofs.lemmas.Int.{ints, to_z-of_z}
 use Rattle.quil_number.specs.Divisor.{common_divisor}

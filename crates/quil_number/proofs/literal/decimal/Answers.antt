@@ -1,4 +1,4 @@
-use Rattle.std.proofs.Common.{◌≡◌, ◌+◌, ◌^◌, ◌<◌, ◌++◌, length, min, ap, sym, ◌∙◌, arith, rules, ℤ, pos, FitsSigned, lit<}
+use Rattle.std.proofs.Common.{◌^◌, ◌++◌, length, ap, sym, ◌∙◌, arith, rules, pos, FitsSigned, lit<}
 use Rattle.std.specs.Int.{w128}
 use Rattle.std.specs.Prelude.{◌-ℤ◌}
 use Rattle.quil_number.specs.Fraction.{within}

@@ -1,4 +1,4 @@
-use Rattle.std.proofs.Common.{◌≡◌, ℕ, ◌+◌, ◌-◌, ◌*◌, ◌^◌, List, [], ◌++◌, length, ap, sym, ◌∙◌, arith, pos}
+use Rattle.std.proofs.Common.{◌-◌, ◌^◌, [], ◌++◌, length, ap, sym, ◌∙◌, arith, pos}
 use Rattle.std.specs.Prelude.{◌-ℤ◌}
 use Rattle.std.proofs.lemmas.Int.{ints}
 use Rattle.quil_number.specs.Fraction.{within}

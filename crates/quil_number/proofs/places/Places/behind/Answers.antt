@@ -1,4 +1,4 @@
-use Rattle.std.proofs.Common.{◌≡◌, List, ℕ, ◌++◌, drop, subst, sym, arith}
+use Rattle.std.proofs.Common.{◌≡◌, ◌++◌, drop, subst, sym, arith}
 use Rattle.quil_number.specs.Places.{Are}
 use Rattle.quil_number.proofs.Tenths.{drop_before}
 use Rattle.quil_number.proofs.places.Places.behind.Goals as goal
