@@ -1,0 +1,4 @@
+pub mod Cofactors
+pub mod Turns
+pub mod Steps
+pub mod Spans

@@ -1,0 +1,3 @@
+pub mod Exact
+pub mod Views
+pub mod Division
