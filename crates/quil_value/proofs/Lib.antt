@@ -1,4 +1,4 @@
-pub mod Cofactors
+pub mod WholeNorms
 pub mod Turns
 pub mod Steps
 pub mod Spans

@@ -1,6 +1,6 @@
 -- Every quotient by 1 + 2w is within the span of the turns.
-use Rattle.std.proofs.Common.{◌≡◌, sym, ◌∙◌, ap, subst, ℕ, suc, ◌+◌, ◌*◌, ◌^◌, ◌<◌, ◌≤◌, ◌==◌, Bool, false, ◌&&◌, arith}
-use Rattle.std.proofs.lemmas.Bool.{neq-eqb}
+use Rattle.std.proofs.Common.{◌≡◌, sym, ◌∙◌, ap, subst, ℕ, suc, ◌+◌, ◌*◌, ◌^◌, ◌<◌, ◌≤◌, ◌==◌, Bool, false, ◌&&◌, inl, inr, arith}
+use Rattle.std.proofs.lemmas.Bool.Decides.{eqb_tells}
 use Rattle.std.specs.Prelude.{ℤ, pos, ◌+ℤ◌, ◌-ℤ◌, ◌*ℤ◌, neg_ℤ, nat_abs}
 use Rattle.std.proofs.lemmas.Int.{ints, unsigned_abs-mul}
 use Rattle.std.proofs.Math.Nat.{mul-le-mul}
@@ -18,7 +18,7 @@ use Rattle.qvm_ring.proofs.RingLemmas.{product_sum, same_element}
 use Rattle.qvm_ring.proofs.Elements.{abs_neg}
 use Rattle.qvm_ring.proofs.Norms.{norm_root_le}
 use Rattle.quil_value.specs.Exact.{cofactor, whole_norm}
-use Rattle.quil_value.proofs.Cofactors.{times_cofactor, whole_norm-positive}
+use Rattle.quil_value.proofs.WholeNorms.{times_cofactor, whole_norm_positive}
 use Rattle.quil_value.proofs.Turns.{abs_parts, one_part}
 
 -- ---- the size of a quotient
@@ -83,7 +83,7 @@ bound p q = 4 * (p * suc (4 * (q * suc (4 * (q * q)))))
 pub quotient_within : (x y z : Element) (p q : ℕ) → times z y ≡ x → is_zero y ≡ false → IsBelow p x → IsBelow q y → IsWithin (bound p q) z
 quotient_within x y z p q e s h k =
     let n = whole_norm y in
-    let some : 0 < n = whole_norm-positive y s in
+    let some : 0 < n = whole_norm_positive y s in
     let c = cofactor_within y q k in
     let w : IsWithin (bound p q) (scaled z n) = subst (IsWithin (bound p q)) (sym (quotient_scaled x y z e))
     (times_within p (suc (4 * (q * suc (4 * (q * q))))) x (cofactor y) h (below_within (4 * (q * suc (4 * (q * q)))) (cofactor y) c)) in
@@ -103,7 +103,10 @@ times_odd z w = same_element (times z (odd w)) (product_with z w)
     (simp product_sum (same_in _ _ (omega (arith, ints))))
 
 odd_some : (z : ℤ) → (nat_abs (pos 1 +ℤ (z +ℤ z)) == 0) ≡ false
-odd_some z = neq-eqb (nat_abs (pos 1 +ℤ (z +ℤ z))) 0 (λ e. omega (arith, ints, e, abs_parts (pos 1 +ℤ (z +ℤ z))))
+odd_some z = elim (eqb_tells (nat_abs (pos 1 +ℤ (z +ℤ z))) 0) [
+  | inl h ↦ absurd (let e : nat_abs (pos 1 +ℤ (z +ℤ z)) ≡ 0 = h.1 in omega (arith, ints, e, abs_parts (pos 1 +ℤ (z +ℤ z))))
+  | inr h ↦ h.0
+]
 
 odd_below : (z : ℤ) → nat_abs z ≤ 2 ^ 65 → nat_abs (pos 1 +ℤ (z +ℤ z)) < 2 ^ 67
 odd_below z h = omega (arith, ints, h, abs_parts z, abs_parts (pos 1 +ℤ (z +ℤ z)), one_part z, one_part (pos 1 +ℤ (z +ℤ z)))

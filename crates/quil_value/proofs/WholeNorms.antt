@@ -51,8 +51,8 @@ times_cofactor y =
 zero_difference : (n m : ℕ) → m ≤ n → nat_abs (pos n -ℤ pos m) ≡ 0 → n ≡ m
 zero_difference n m h e = omega (arith, ints)
 
-pub whole_norm-positive : (y : Element) → is_zero y ≡ false → 0 < whole_norm y
-whole_norm-positive y h = elim (nat_lt 0 (whole_norm y)) as (λ t. nat_lt 0 (whole_norm y) ≡ t → 0 < whole_norm y) [
+pub whole_norm_positive : (y : Element) → is_zero y ≡ false → 0 < whole_norm y
+whole_norm_positive y h = elim (nat_lt 0 (whole_norm y)) as (λ t. nat_lt 0 (whole_norm y) ≡ t → 0 < whole_norm y) [
   | true ↦ λ e. ltb-true 0 (whole_norm y) e
   | false ↦ λ e.
       let l : whole_norm y ≤ 0 = ltb-false 0 (whole_norm y) e in
