@@ -1,3 +1,4 @@
 pub mod Exact
 pub mod Views
 pub mod Division
+pub mod Forms
