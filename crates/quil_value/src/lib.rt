@@ -3,11 +3,15 @@
 //! `specs/Exact.antt` has the four kinds of numbers, each in one form, and the table of their sums, products and quotients.
 #![tactic(auto)]
 
+mod examples;
 mod form_laws;
 mod lack;
 mod laws;
 mod low_end;
+#[cfg(test)]
+mod tests;
 
+pub use examples::{products_by_hand, sums_by_hand};
 pub use form_laws::{common_divisors, least_powers, powers_of_two};
 pub use lack::Lack;
 pub use laws::cofactors;

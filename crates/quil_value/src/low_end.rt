@@ -26,10 +26,13 @@ pub struct Turn {
 }
 
 /// The answer of a division.
-#[derive(Clone, Copy)]
+#[derive(Clone, Copy, Debug, PartialEq, Eq)]
 pub enum Division {
+    /// The quotient, whose coefficients are at most 2^62 in absolute value.
     Exact(Wide),
+    /// There is a quotient, with a coefficient above 2^62 in absolute value.
     TooWide,
+    /// No ring number is a quotient.
     Nothing,
 }
 
@@ -250,8 +253,9 @@ fn appended(digits: Digits, z: Wide) -> Division
     }
 }
 
-/// The quotient of x by 1 + 2w, found in so many turns.
-pub fn quotient(x: Wide, w: Wide, turns: u32) -> Division
+// The quotient of x by 1 + 2w, found in so many turns. Each turn takes the lowest binary digits of x: they are those of the
+// quotient, since 1 + 2w is odd.
+fn quotient(x: Wide, w: Wide, turns: u32) -> Division
     requires left { IsWithin (2 ^ 68) (wide_element x) }
     requires right { IsWithin (2 ^ 65) (wide_element w) }
     ensures { IsAnswer (wide_element x) (wide_element w) turns result }
@@ -270,7 +274,9 @@ pub fn quotient(x: Wide, w: Wide, turns: u32) -> Division
     }
 }
 
-/// The quotient of x by 1 + 2w.
+/// The quotient of x by 1 + 2w, whatever its digits: no quotient needs more turns than these before its digits repeat.
+///
+/// The coefficients of x are at most 2^68 in absolute value, and those of w at most 2^65.
 pub fn divided(x: Wide, w: Wide) -> Division
     requires left { IsWithin (2 ^ 68) (wide_element x) }
     requires right { IsWithin (2 ^ 65) (wide_element w) }
