@@ -1,9 +1,9 @@
 //! Examples worked by hand, which the check computes.
 
-ghost use Rattle.std.specs.Prelude.{◌≡◌, ◌^◌, pos, negsuc, Ok, Err};
-ghost use Rattle.qvm_ring.specs.Ring.{Element, nought, unit, whole_number, root_two};
+ghost use Rattle.std.specs.Prelude.{◌≡◌, pos, negsuc, Ok, Err};
+ghost use Rattle.qvm_ring.specs.Ring.{unit, root_two};
 ghost use Rattle.qvm_ring.specs.Examples.{element};
-ghost use Rattle.quil_value.specs.declared.lack.Lack.TheVariants.{NotExact, ZeroDivisor, NumberTooWide};
+ghost use Rattle.quil_value.specs.declared.lack.Lack.TheVariants.{NotExact, ZeroDivisor};
 ghost use Rattle.quil_value.specs.Exact.{Ring, Rational, Pi, ImagPi, sum_of, difference_of, product_of, quotient_of};
 ghost use Rattle.quil_value.specs.Examples.{third, half_turn, quarter_turn, imaginary, whole};
 
