@@ -2,3 +2,4 @@ pub mod Exact
 pub mod Views
 pub mod Division
 pub mod Forms
+pub mod RingNumbers
