@@ -10,15 +10,31 @@ use crate::lack::Lack;
 use crate::ring_number::settled;
 use qvm_ring::Wide;
 
+fn narrow(x: i128) -> i64
+    requires { nat_abs x ≤ 2 ^ 62 }
+    ensures { result ≡ x }
+{
+    x as i64
+}
+
+fn narrow_product(x: i64, y: i64) -> i128
+    requires left { nat_abs x ≤ 2 ^ 62 }
+    requires right { nat_abs y ≤ 2 ^ 62 }
+    ensures value { result ≡ x *ℤ y }
+    ensures bound { nat_abs result ≤ 2 ^ 124 }
+{
+    i128::from(x) * i128::from(y)
+}
+
 fn part(x: i128, y: i128) -> i128
     requires left { nat_abs x ≤ 2 ^ 62 }
     requires right { nat_abs y ≤ 2 ^ 62 }
     ensures value { result ≡ x *ℤ y }
     ensures bound { nat_abs result ≤ 2 ^ 124 }
 {
-    let left = x as i64;
-    let right = y as i64;
-    i128::from(left) * i128::from(right)
+    let left = narrow(x);
+    let right = narrow(y);
+    narrow_product(left, right)
 }
 
 fn add(x: i128, y: i128) -> i128
