@@ -3,3 +3,4 @@ pub mod Views
 pub mod Division
 pub mod Forms
 pub mod Examples
+pub mod RingNumbers

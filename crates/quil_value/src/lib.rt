@@ -10,9 +10,13 @@ mod laws;
 mod low_end;
 #[cfg(test)]
 mod tests;
+mod ring_number;
+mod ring_product;
 
 pub use examples::{products_by_hand, sums_by_hand};
 pub use form_laws::{common_divisors, least_powers, powers_of_two};
 pub use lack::Lack;
 pub use laws::cofactors;
 pub use low_end::{Division, divided};
+pub use ring_number::{lowered, raised, sum};
+pub use ring_product::product;
