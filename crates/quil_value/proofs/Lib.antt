@@ -1,0 +1,6 @@
+pub mod WholeNorms
+pub mod Turns
+pub mod Steps
+pub mod Spans
+pub mod Powers
+pub mod Leasts

@@ -1,0 +1,4 @@
+pub mod Exact
+pub mod Views
+pub mod Division
+pub mod Forms

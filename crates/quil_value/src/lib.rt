@@ -1,0 +1,14 @@
+//! Exact values of expressions and their arithmetic.
+//!
+//! `specs/Exact.antt` has the four kinds of numbers, each in one form, and the table of their sums, products and quotients.
+#![tactic(auto)]
+
+mod form_laws;
+mod lack;
+mod laws;
+mod low_end;
+
+pub use form_laws::least_powers;
+pub use lack::Lack;
+pub use laws::cofactors;
+pub use low_end::{Division, divided};
