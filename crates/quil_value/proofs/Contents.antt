@@ -1,13 +1,12 @@
 -- What divides n and all coordinates of z.
-use Rattle.std.proofs.Common.{◌≡◌, refl, sym, ◌∙◌, ap, subst, ℕ, suc, ◌*◌, ◌/◌, ◌^◌, ◌<◌, arith}
+use Rattle.std.proofs.Common.{◌≡◌, sym, ◌∙◌, ap, subst, ℕ, suc, ◌*◌, ◌/◌, ◌<◌}
 use Rattle.std.specs.Prelude.{ℤ, pos, negsuc, ◌*ℤ◌, neg_ℤ, nat_abs, int_div}
-use Rattle.std.specs.Int.{IsGcd, ◌∣◌}
+use Rattle.std.specs.Int.{◌∣◌}
 use Rattle.std.proofs.lemmas.Int.{unsigned_abs-mul}
 use Rattle.std.proofs.lemmas.Nat.Gcd.{dvd_trans, dvd-zero, dvd_refl}
 use Rattle.std.proofs.Math.Nat.{div-mul_cancel, pos_of_dvd_of_pos, dvd-mul_left, dvd_of_mul-dvd-mul_right, mul_comm}
 use Rattle.qvm_ring.specs.Ring.{Element, whole_number, times}
 use Rattle.qvm_ring.proofs.RingLemmas.{same_element, neg_product}
-use Rattle.qvm_ring.proofs.Bits.{power_positive}
 use Rattle.quil_number.specs.Divisor.{common_divisor}
 use Rattle.quil_number.proofs.Divisors.{common_divisor_is, common_divisor_from}
 use Rattle.quil_number.proofs.Fractions.{common_divisor-scaled}

@@ -1,12 +1,12 @@
 -- Powers of two and what divides them.
-use Rattle.std.proofs.Common.{◌≡◌, ◌≢◌, refl, sym, ◌∙◌, ap, subst, ℕ, zero, suc, ◌+◌, ◌*◌, ◌/◌, ◌%◌, ◌^◌, ◌<◌, ◌≤◌, ◌==◌, inl, inr, true, false, Some, None, Option, arith}
+use Rattle.std.proofs.Common.{◌≡◌, refl, sym, ◌∙◌, ap, subst, ℕ, zero, suc, ◌*◌, ◌/◌, ◌%◌, ◌^◌, ◌<◌, ◌≤◌, ◌==◌, inl, inr, false, Some, arith}
 use Rattle.std.specs.Int.{IsGcd, ◌∣◌}
 use Rattle.std.proofs.lemmas.Bool.{eq-eqb, eqb-true, cases_lt}
 use Rattle.std.proofs.lemmas.Bool.Decides.{eqb_tells}
 use Rattle.std.proofs.Math.Pow.{pow-lt}
-use Rattle.std.proofs.Math.Nat.{eq-one_of_dvd-one, one-dvd, dvd_of_mul-dvd-mul_left, dvd-mul_right}
-use Rattle.std.proofs.lemmas.Nat.Gcd.{IsGcd-from_mod, dvd_refl, dvd_trans}
-use Rattle.quil_number.proofs.Divisors.{greatest_is, greatest_passes, greatest_fails}
+use Rattle.std.proofs.Math.Nat.{eq-one_of_dvd-one, one-dvd, dvd_of_mul-dvd-mul_left}
+use Rattle.std.proofs.lemmas.Nat.Gcd.{IsGcd-from_mod, dvd_refl}
+use Rattle.quil_number.proofs.Divisors.{greatest_is, greatest_passes}
 use Rattle.quil_number.proofs.Fractions.{divides_other}
 use Rattle.quil_value.specs.Exact.{exponent_of_two}
 
