@@ -1,9 +1,9 @@
 -- The least power of √2 below a number: there is one form, and it is found.
-use Rattle.std.proofs.Common.{◌≡◌, refl, sym, ◌∙◌, ap, ap₂, subst, ℕ, zero, suc, ◌+◌, ◌*◌, ◌<◌, true, false, Bool, if◌then◌else◌, arith}
+use Rattle.std.proofs.Common.{◌≡◌, refl, sym, ◌∙◌, ap, ap₂, ℕ, zero, suc, true, false, Bool, if◌then◌else◌, arith}
 use Rattle.qvm_ring.specs.Ring.{Element, times, root_two, is_divisible, quotient}
 use Rattle.qvm_ring.proofs.RingLemmas.{root_two_times_quotient}
 use Rattle.qvm_ring.proofs.Associative.{times_assoc}
-use Rattle.quil_value.specs.Exact.{Exact, Ring, least, root_power}
+use Rattle.quil_value.specs.Exact.{Ring, least, root_power}
 use Rattle.quil_value.specs.Forms.{IsLeast}
 use Rattle.quil_value.proofs.Powers.{times_comm, times_unit_right, last_two, cancel_root, cancel_root_power, root_two_divides}
 

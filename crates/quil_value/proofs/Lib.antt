@@ -4,3 +4,5 @@ pub mod Steps
 pub mod Spans
 pub mod Powers
 pub mod Leasts
+pub mod Twos
+pub mod Contents

@@ -13,7 +13,7 @@ use Rattle.qvm_ring.proofs.ProductBounds.{times_within}
 use Rattle.quil_value.specs.Division.{product_with, IsQuotient, IsSpanned, Spans, IsAnswer, IsDivided}
 use Rattle.quil_value.specs.declared.low_end.Division.{Division}
 use Rattle.quil_value.specs.declared.low_end.Division.TheVariants as answer
-use Rattle.qvm_ring.specs.Ring.{square, norm_whole, norm_root}
+use Rattle.qvm_ring.specs.Ring.{norm_whole, norm_root}
 use Rattle.qvm_ring.proofs.RingLemmas.{product_sum, same_element}
 use Rattle.qvm_ring.proofs.Elements.{abs_neg}
 use Rattle.qvm_ring.proofs.Norms.{norm_root_le}

@@ -1,6 +1,6 @@
 -- Exact values of expressions: four kinds of numbers, each in one form, and their sums, differences, products and quotients.
 -- Elements a + bω + cω² + dω³ with ω⁴ = -1, i = ω² and √2 = ω - ω³ are those of qvm_ring. Nothing here has a width.
-use Rattle.std.specs.Prelude.{ℕ, zero, suc, ◌+◌, ◌*◌, ◌/◌, ◌^◌, ◌==◌, nat_le, ℤ, pos, negsuc, ◌+ℤ◌, ◌-ℤ◌, neg_ℤ, nat_abs, int_div, Bool, ◌&&◌, Option, Some, None, Result, Ok, Err, if◌then◌else◌}
+use Rattle.std.specs.Prelude.{ℕ, zero, suc, ◌*◌, ◌/◌, ◌^◌, ◌==◌, nat_le, ℤ, pos, ◌+ℤ◌, ◌-ℤ◌, neg_ℤ, nat_abs, int_div, Bool, ◌&&◌, Option, Some, None, Result, Ok, Err, if◌then◌else◌}
 use Rattle.std.specs.Ordering.{int_eq}
 use Rattle.qvm_ring.specs.Ring.{Element, nought, unit, whole_number, plus, negated, times, conjugate, root_two, square, norm_whole, norm_root, is_zero, is_divisible, quotient}
 use Rattle.quil_number.specs.declared.fraction.Fraction.{Fraction}

@@ -1,5 +1,5 @@
 -- The one form of each value. Each value of the program has it.
-use Rattle.std.specs.Prelude.{◌≡◌, ℕ, ◌<◌, nat_abs, false, None, pos}
+use Rattle.std.specs.Prelude.{◌≡◌, ℕ, ◌<◌, nat_abs, false, None}
 use Rattle.std.specs.Int.{IsGcd}
 use Rattle.qvm_ring.specs.Ring.{Element, is_divisible}
 use Rattle.quil_number.specs.declared.fraction.Fraction.{Fraction}

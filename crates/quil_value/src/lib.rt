@@ -8,7 +8,7 @@ mod lack;
 mod laws;
 mod low_end;
 
-pub use form_laws::least_powers;
+pub use form_laws::{common_divisors, least_powers, powers_of_two};
 pub use lack::Lack;
 pub use laws::cofactors;
 pub use low_end::{Division, divided};
