@@ -3,12 +3,14 @@
 //! `specs/Exact.antt` has the four kinds of numbers, each in one form, and the table of their sums, products and quotients.
 #![tactic(auto)]
 
+mod angle;
 mod form_laws;
 mod lack;
 mod laws;
 mod low_end;
 mod value;
 
+pub use angle::{cis, cos, exp, sin};
 pub use form_laws::{common_divisors, least_powers, powers_of_two};
 pub use lack::Lack;
 pub use laws::cofactors;

@@ -3,7 +3,7 @@
 ghost use Rattle.std.specs.Prelude.{◌≡◌, ◌<◌, ◌≤◌, ◌^◌, nat_abs};
 ghost use Rattle.qvm_ring.specs.Ring.{is_zero};
 ghost use Rattle.qvm_ring.specs.Views.{wide_element};
-ghost use Rattle.quil_value.specs.Angles.{whole_fourfold, eighths_of, imaginary_eighths_of, eighths_in_64_bits};
+ghost use Rattle.quil_value.specs.Angles.{whole_fourfold, eighths_of, imaginary_eighths_of, in_64_bits, eighths_in_64_bits};
 ghost use Rattle.quil_value.specs.Value.{exact_of, IsValue};
 
 use std::marker::Model;
@@ -68,6 +68,16 @@ fn is_zero(z: Wide) -> bool
     z.a == 0 && z.b == 0 && z.c == 0 && z.d == 0
 }
 
+fn in_64_bits(k: i128) -> Option<i64>
+    ensures { result ≡ in_64_bits k }
+{
+    if i64::MIN as i128 <= k && k <= i64::MAX as i128 {
+        Some(k as i64)
+    } else {
+        None
+    }
+}
+
 impl Value {
     /// Which kind it is, with its numbers.
     pub fn kind(&self) -> Kind
@@ -112,7 +122,7 @@ impl Value {
         ensures { result ≡ eighths_in_64_bits self.now }
     {
         match self.whole_eighths() {
-            Some(k) => i64::try_from(k).ok(),
+            Some(k) => in_64_bits(k),
             None => None,
         }
     }
