@@ -6,10 +6,9 @@ ghost use Rattle.qvm_ring.specs.Views.{wide_element};
 ghost use Rattle.quil_value.specs.Angles.{whole_fourfold, eighths_of, imaginary_eighths_of, in_64_bits, eighths_in_64_bits};
 ghost use Rattle.quil_value.specs.Value.{exact_of, IsValue};
 
-use std::marker::Model;
-
 use quil_number::Fraction;
 use qvm_ring::Wide;
+use std::marker::Model;
 
 /// The ring number num/√2^m.
 #[derive(Clone, Copy, Debug, PartialEq, Eq)]

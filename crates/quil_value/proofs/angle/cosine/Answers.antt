@@ -1,8 +1,8 @@
 use Rattle.std.proofs.Common.{rules, ◌≡◌, sym, ◌∙◌, ap, ℕ, arith}
 use Rattle.std.specs.Prelude.{pos}
-use Rattle.qvm_ring.specs.Ring.{Element, plus, negated, times, conjugate}
+use Rattle.qvm_ring.specs.Ring.{Element, plus, conjugate}
 use Rattle.quil_value.specs.Exact.{least}
-use Rattle.quil_value.specs.Angles.{turn, minus_i}
+use Rattle.quil_value.specs.Angles.{turn}
 use Rattle.quil_value.proofs.angle.cosine.Goals as goal
 
 pub returns-in_default : goal.returns-in_default
