@@ -4,3 +4,4 @@ pub mod Division
 pub mod Forms
 pub mod Value
 pub mod Angles
+pub mod Literals

@@ -7,6 +7,7 @@ mod angle;
 mod form_laws;
 mod lack;
 mod laws;
+mod literal;
 mod low_end;
 mod value;
 
@@ -14,5 +15,6 @@ pub use angle::{cis, cos, exp, sin};
 pub use form_laws::{common_divisors, least_powers, powers_of_two};
 pub use lack::Lack;
 pub use laws::cofactors;
+pub use literal::fractions_in_lowest_terms;
 pub use low_end::{Division, divided};
 pub use value::{Kind, RingNumber, Value};
