@@ -7,3 +7,5 @@ pub mod Leasts
 pub mod Twos
 pub mod Contents
 pub mod RingSums
+pub mod Eighths
+pub mod Decimals

@@ -4,3 +4,6 @@ pub mod Division
 pub mod Forms
 pub mod Examples
 pub mod RingNumbers
+pub mod Value
+pub mod Angles
+pub mod Literals

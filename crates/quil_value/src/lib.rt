@@ -4,9 +4,11 @@
 #![tactic(auto)]
 
 mod examples;
+mod angle;
 mod form_laws;
 mod lack;
 mod laws;
+mod literal;
 mod low_end;
 #[cfg(test)]
 mod tests;
@@ -14,9 +16,13 @@ mod ring_number;
 mod ring_product;
 
 pub use examples::{products_by_hand, sums_by_hand};
+mod value;
+pub use angle::{cis, cos, exp, sin};
 pub use form_laws::{common_divisors, least_powers, powers_of_two};
 pub use lack::Lack;
 pub use laws::cofactors;
+pub use literal::fractions_in_lowest_terms;
 pub use low_end::{Division, divided};
 pub use ring_number::{lowered, raised, sum};
 pub use ring_product::product;
+pub use value::{Kind, RingNumber, Value};
