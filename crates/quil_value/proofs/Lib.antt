@@ -6,3 +6,4 @@ pub mod Powers
 pub mod Leasts
 pub mod Twos
 pub mod Contents
+pub mod Settled

@@ -7,8 +7,10 @@ mod form_laws;
 mod lack;
 mod laws;
 mod low_end;
+mod quotient_laws;
 
 pub use form_laws::{common_divisors, least_powers, powers_of_two};
 pub use lack::Lack;
 pub use laws::cofactors;
 pub use low_end::{Division, divided};
+pub use quotient_laws::scaled_fractions;
