@@ -7,3 +7,4 @@ pub mod Leasts
 pub mod Twos
 pub mod Contents
 pub mod Settled
+pub mod Identity
