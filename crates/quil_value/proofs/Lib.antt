@@ -9,3 +9,5 @@ pub mod Contents
 pub mod RingSums
 pub mod Eighths
 pub mod Decimals
+pub mod Settled
+pub mod Identity

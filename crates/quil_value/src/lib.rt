@@ -14,6 +14,7 @@ mod low_end;
 mod tests;
 mod ring_number;
 mod ring_product;
+mod quotient_laws;
 
 pub use examples::{products_by_hand, sums_by_hand};
 mod value;
@@ -26,3 +27,4 @@ pub use low_end::{Division, divided};
 pub use ring_number::{lowered, raised, sum};
 pub use ring_product::product;
 pub use value::{Kind, RingNumber, Value};
+pub use quotient_laws::{scaled_fractions, settled_values};

@@ -1,0 +1,18 @@
+//! What exact quotients are.
+
+ghost use Rattle.std.specs.Prelude.{◌≡◌, ◌*◌, ◌<◌, ℕ, ℤ, Ok};
+ghost use Rattle.qvm_ring.specs.Ring.{Element};
+ghost use Rattle.quil_value.specs.Exact.{Exact, numerator, denominator, power_of_pi, scaled_by, settled};
+ghost use Rattle.quil_value.specs.Forms.{IsForm};
+
+/// The value of a fraction z/n · π^k is that of (c·z)/(c·n) · π^k.
+#[tactic(auto, using(crate::proofs::Settled::settled_scaled))]
+pub fn scaled_fractions()
+    ensures { (z : Element) (n c : ℕ) (k : ℤ) → 0 < c → 0 < n → settled (scaled_by c z) (c * n) k ≡ settled z n k }
+{}
+
+/// A value in its one form is what its numerator, its denominator and its power of π make.
+#[tactic(auto, using(crate::proofs::Identity::settled_self))]
+pub fn settled_values()
+    ensures { (x : Exact) → IsForm x → settled (numerator x) (denominator x) (power_of_pi x) ≡ Ok x }
+{}
