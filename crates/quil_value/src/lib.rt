@@ -3,28 +3,28 @@
 //! `specs/Exact.antt` has the four kinds of numbers, each in one form, and the table of their sums, products and quotients.
 #![tactic(auto)]
 
-mod examples;
 mod angle;
+mod examples;
 mod form_laws;
 mod lack;
 mod laws;
 mod literal;
 mod low_end;
-#[cfg(test)]
-mod tests;
+mod quotient_laws;
 mod ring_number;
 mod ring_product;
-mod quotient_laws;
-
-pub use examples::{products_by_hand, sums_by_hand};
+#[cfg(test)]
+mod tests;
 mod value;
+
 pub use angle::{cis, cos, exp, sin};
+pub use examples::{products_by_hand, sums_by_hand};
 pub use form_laws::{common_divisors, least_powers, powers_of_two};
 pub use lack::Lack;
 pub use laws::cofactors;
 pub use literal::fractions_in_lowest_terms;
 pub use low_end::{Division, divided};
+pub use quotient_laws::{scaled_fractions, settled_values};
 pub use ring_number::{lowered, raised, sum};
 pub use ring_product::product;
 pub use value::{Kind, RingNumber, Value};
-pub use quotient_laws::{scaled_fractions, settled_values};
