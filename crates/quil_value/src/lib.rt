@@ -9,6 +9,8 @@ mod laws;
 mod low_end;
 mod ring_number;
 mod ring_product;
+#[cfg(test)]
+mod ring_tests;
 
 pub use form_laws::{common_divisors, least_powers, powers_of_two};
 pub use lack::Lack;
