@@ -80,7 +80,11 @@ fn answers(rt: HostRuntime) -> Result<(), Fail> {
         let (x, m) = number(left)?;
         let (y, n) = number(right)?;
         assert!(rt; is_bounded(x, m) && is_bounded(y, n));
-        let found = if name == "sum" { sum(x, m, y, n) } else { product(x, m, y, n) };
+        let found = if name == "sum" {
+            sum(x, m, y, n)
+        } else {
+            product(x, m, y, n)
+        };
         assert!(rt; found == wanted(due)?, "at {row}");
     }
     Ok(())
