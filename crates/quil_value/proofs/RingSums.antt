@@ -1,15 +1,15 @@
 -- Sums of ring numbers: halves of sums, powers of √2, and one exponent for both.
-use Rattle.std.proofs.Common.{◌≡◌, refl, sym, ◌∙◌, ap, ap₂, subst, ℕ, zero, suc, ◌+◌, ◌-◌, ◌*◌, ◌^◌, ◌<◌, ◌≤◌, true, false, Bool, if◌then◌else◌, arith}
-use Rattle.std.specs.Prelude.{ℤ, pos, negsuc, ◌+ℤ◌, ◌-ℤ◌, ◌*ℤ◌, neg_ℤ, nat_abs}
+use Rattle.std.proofs.Common.{◌≡◌, refl, sym, ◌∙◌, ap, ap₂, subst, ℕ, zero, suc, ◌+◌, ◌-◌, ◌*◌, ◌^◌, ◌<◌, ◌≤◌, Bool, if◌then◌else◌, arith}
+use Rattle.std.specs.Prelude.{ℤ, pos, negsuc, ◌+ℤ◌, ◌-ℤ◌, ◌*ℤ◌, neg_ℤ}
 use Rattle.std.proofs.lemmas.Int.{ints}
 use borrow.Author.Differences.{same_in}
-use Rattle.qvm_ring.specs.Ring.{Element, plus, times, root_two, unit, same_parity, is_divisible, quotient, whole_number}
-use Rattle.qvm_ring.proofs.RingLemmas.{same_element, sum_product, root_two_times_quotient}
+use Rattle.qvm_ring.specs.Ring.{Element, plus, times, root_two, same_parity, quotient, whole_number}
+use Rattle.qvm_ring.proofs.RingLemmas.{same_element, root_two_times_quotient}
 use Rattle.qvm_ring.proofs.Associative.{times_assoc, times_sum}
 use Rattle.std.proofs.Math.Pow.{pow_mono}
 use Rattle.qvm_ring.specs.Multiply.{IsWithin}
 use Rattle.qvm_ring.proofs.ProductBounds.{plus_within, within_more}
-use Rattle.quil_value.specs.Exact.{Exact, Ring, least, root_power}
+use Rattle.quil_value.specs.Exact.{Ring, least, root_power}
 use Rattle.quil_value.specs.Division.{double}
 use Rattle.quil_value.proofs.Spans.{scaled, times_whole}
 use Rattle.quil_value.proofs.Powers.{times_comm, times_unit_right, root_power_sum, cancel_root, root_two_divides}
@@ -97,7 +97,7 @@ pub raised_next : (z w v : Element) (i : ℕ) → v ≡ plus w w → Raised z i 
 raised_next z w v i e r = record {
   value = e ∙ double_power z w (2 * i) r.value ∙ ap (λ (n : ℕ). times z (root_power n)) (let c : suc (suc (2 * i)) ≡ 2 * (i + 1) = omega arith in c);
   bound = subst (IsWithin (2 ^ (62 + (i + 1)))) (sym e)
-    (within_more (2 ^ (62 + i) + 2 ^ (62 + i)) (2 ^ (62 + (i + 1))) (plus w w) (twofold (62 + i) (62 + (i + 1)) (omega arith)) (plus_within (2 ^ (62 + i)) (2 ^ (62 + i)) w w r.bound r.bound));
+      (within_more (2 ^ (62 + i) + 2 ^ (62 + i)) (2 ^ (62 + (i + 1))) (plus w w) (twofold (62 + i) (62 + (i + 1)) (omega arith)) (plus_within (2 ^ (62 + i)) (2 ^ (62 + i)) w w r.bound r.bound));
 }
   where
     twofold : (m n : ℕ) → n ≡ suc m → 2 ^ m + 2 ^ m ≤ 2 ^ n

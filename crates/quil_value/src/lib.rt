@@ -16,6 +16,7 @@ mod ring_product;
 #[cfg(test)]
 mod tests;
 mod value;
+mod ring_tests;
 
 pub use angle::{cis, cos, exp, sin};
 pub use examples::{products_by_hand, sums_by_hand};

@@ -1,11 +1,10 @@
 //! Sums of ring numbers z/√2^m in 128 bits, each in its one form.
 
-ghost use Rattle.std.specs.Prelude.{◌≡◌, ◌+◌, ◌^◌, ◌≤◌, ℕ, nat_abs, pos, ◌-ℤ◌, ◌+ℤ◌, int_div, true, Ok};
+ghost use Rattle.std.specs.Prelude.{◌≡◌, ◌+◌, ◌^◌, ◌≤◌, nat_abs, pos, ◌-ℤ◌, ◌+ℤ◌, int_div, true, Ok};
 ghost use Rattle.qvm_ring.specs.Ring.{times, plus, root_two, same_parity, is_divisible, quotient};
 ghost use Rattle.qvm_ring.specs.Views.{wide_element};
 ghost use Rattle.qvm_ring.specs.Multiply.{IsWithin};
 ghost use Rattle.quil_value.specs.Exact.{Ring, least, root_power, bounded, is_near};
-ghost use Rattle.quil_value.specs.Division.{double};
 ghost use Rattle.quil_value.specs.RingNumbers.{value_of_answer, ring_sum};
 
 use crate::lack::Lack;

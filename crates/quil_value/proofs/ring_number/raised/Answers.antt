@@ -1,4 +1,4 @@
-use Rattle.std.proofs.Common.{rules, ◌≡◌, ◌≤◌, ◌*◌, suc, arith}
+use Rattle.std.proofs.Common.{rules, ◌≡◌, ◌*◌, suc, arith}
 use Rattle.qvm_ring.specs.Views.{wide_element}
 use Rattle.quil_value.proofs.RingSums.{raised_first, raised_within, raised_within_more, raised_next, raised_even, raised_odd}
 use Rattle.quil_value.proofs.ring_number.raised.Goals as goal

@@ -1,4 +1,4 @@
-use Rattle.std.proofs.Common.{rules, ◌∙◌, ◌<◌, ap, Ok}
+use Rattle.std.proofs.Common.{rules, ◌∙◌, ap, Ok}
 use Rattle.qvm_ring.specs.Views.{wide_element}
 use Rattle.quil_value.specs.Exact.{Exact, bounded}
 use Rattle.quil_value.proofs.RingSums.{sum_left, sum_right}
