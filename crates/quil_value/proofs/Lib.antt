@@ -8,3 +8,4 @@ pub mod Twos
 pub mod Contents
 pub mod Settled
 pub mod Identity
+pub mod Quotients
