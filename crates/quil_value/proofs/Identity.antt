@@ -66,7 +66,7 @@ imag_pi_settles x h =
     ∙ ap (λ (s : Bool). angle_by s (lowest (pos 0) x.q) (lowest x.p x.q)) (not_none (nat_abs x.p) h.some)
     ∙ ap (λ (y : Fraction). Ok (ImagPi y)) (lowest_self x h.form)
 
-abbrev by_exponent : Option ℕ → Element → Bool → Fraction → Result Exact Lack
+abbrev pub by_exponent : Option ℕ → Element → Bool → Fraction → Result Exact Lack
 by_exponent o w is_real x = elim o [
   | Some k ↦ Ok (least w (2 * k))
   | None ↦ if is_real then Ok (Rational x) else Err NotExact

@@ -11,3 +11,4 @@ pub mod Eighths
 pub mod Decimals
 pub mod Settled
 pub mod Identity
+pub mod Quotients

@@ -1,7 +1,7 @@
 //! What exact quotients are.
 
-ghost use Rattle.std.specs.Prelude.{◌≡◌, ◌*◌, ◌<◌, ℕ, ℤ, Ok};
-ghost use Rattle.qvm_ring.specs.Ring.{Element};
+ghost use Rattle.std.specs.Prelude.{◌≡◌, ◌*◌, ◌<◌, ℕ, ℤ, Ok, false};
+ghost use Rattle.qvm_ring.specs.Ring.{Element, is_zero};
 ghost use Rattle.quil_value.specs.Exact.{Exact, numerator, denominator, power_of_pi, scaled_by, settled};
 ghost use Rattle.quil_value.specs.Forms.{IsForm};
 
@@ -15,4 +15,11 @@ pub fn scaled_fractions()
 #[tactic(auto, using(crate::proofs::Identity::settled_self))]
 pub fn settled_values()
     ensures { (x : Exact) → IsForm x → settled (numerator x) (denominator x) (power_of_pi x) ≡ Ok x }
+{}
+
+/// What is settled for a fraction z/n · π^k is that number.
+#[tactic(auto, using(crate::proofs::Quotients::settled_number_same, crate::proofs::Quotients::settled_power_same))]
+pub fn settled_fractions()
+    ensures number { (z : Element) (n : ℕ) (k : ℤ) (w : Exact) → settled z n k ≡ Ok w → 0 < n → scaled_by n (numerator w) ≡ scaled_by (denominator w) z }
+    ensures power { (z : Element) (n : ℕ) (k : ℤ) (w : Exact) → settled z n k ≡ Ok w → 0 < n → is_zero z ≡ false → power_of_pi w ≡ k }
 {}
