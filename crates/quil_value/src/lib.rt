@@ -14,9 +14,10 @@ mod quotient_laws;
 mod ring_number;
 mod ring_product;
 #[cfg(test)]
+mod ring_tests;
+#[cfg(test)]
 mod tests;
 mod value;
-mod ring_tests;
 
 pub use angle::{cis, cos, exp, sin};
 pub use examples::{products_by_hand, sums_by_hand};
@@ -25,8 +26,7 @@ pub use lack::Lack;
 pub use laws::cofactors;
 pub use literal::fractions_in_lowest_terms;
 pub use low_end::{Division, divided};
-pub use quotient_laws::{scaled_fractions, settled_values};
+pub use quotient_laws::{scaled_fractions, settled_fractions, settled_values};
 pub use ring_number::{lowered, raised, sum};
 pub use ring_product::product;
 pub use value::{Kind, RingNumber, Value};
-pub use quotient_laws::{scaled_fractions, settled_fractions, settled_values};
