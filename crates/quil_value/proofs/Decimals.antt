@@ -11,6 +11,12 @@ use Rattle.quil_number.specs.Divisor.{common_divisor}
 use Rattle.quil_number.specs.Fraction.{lowest}
 use Rattle.quil_number.proofs.Divisors.{common_divisor_from}
 use Rattle.quil_value.specs.Exact.{content, least, Ring}
+use Rattle.quil_value.specs.declared.lack.Lack.{Lack}
+use Rattle.quil_value.specs.declared.lack.Lack.TheVariants.{NotExact}
+use Rattle.quil_value.proofs.Twos.{exponent_found}
+use Rattle.quil_value.specs.Exact.{Exact, Rational, exponent_of_two, divided_by, is_rational, settled_number}
+use Rattle.qvm_ring.specs.Ring.{Element}
+use Rattle.std.specs.Prelude.{Option, Some, None, Result, Ok, Err}
 use Rattle.quil_value.specs.Literals.{real_number}
 use Rattle.quil_value.specs.Forms.{IsInLowestTerms}
 
@@ -55,3 +61,29 @@ least_real p (suc k) h =
     let odd : (nat_abs p % 2 == 0) ≡ false = odd_numerator (nat_abs p) k h in
     ap (λ (n : ℕ). least (real_number p) n) e ∙ ap (λ (t : Bool). if t && true then least (quotient (real_number p)) (suc (2 * k)) else Ring (real_number p) (suc (suc (2 * k)))) odd
     ∙ ap (λ (n : ℕ). Ring (real_number p) n) (sym e)
+
+-- p/q in lowest terms: a ring number where q is a power of two, else a rational
+abbrev pub form_of : Fraction → Option ℕ → Exact
+form_of x (Some k) = Ring (real_number x.p) (2 * k)
+form_of x None = Rational x
+
+abbrev chosen : Fraction → Element → Option ℕ → Result Exact Lack
+chosen x w o = elim o [
+  | Some k ↦ Ok (least w (2 * k))
+  | None ↦ if is_rational (real_number x.p) then Ok (Rational (lowest x.p x.q)) else Err NotExact
+]
+
+chosen_is : (x : Fraction) (o : Option ℕ) → exponent_of_two x.q ≡ o → IsInLowestTerms x → chosen x (real_number x.p) o ≡ Ok (form_of x o)
+chosen_is x (Some k) e h = ap (λ (y : Exact). Ok y) (least_real x.p k (subst (λ n. IsGcd (nat_abs x.p) n 1) (sym (exponent_found x.q k e)) h.lowest))
+chosen_is x None e h = ap (λ (y : Fraction). Ok (Rational y)) (lowest_again x h)
+
+real_over_one : (p : ℤ) → divided_by 1 (real_number p) ≡ real_number p
+real_over_one p = ap real_number (int_over_one p)
+
+pub number_settled : (x : Fraction) → IsInLowestTerms x → settled_number (real_number x.p) x.q ≡ Ok (form_of x (exponent_of_two x.q))
+number_settled x h =
+    let z = real_number x.p in
+    ap (λ (g : ℕ). chosen x (divided_by g z) (exponent_of_two (x.q / g))) (content_one x h)
+    ∙ ap (λ (y : Element). chosen x y (exponent_of_two (x.q / 1))) (real_over_one x.p)
+    ∙ ap (λ (n : ℕ). chosen x z (exponent_of_two n)) (over_one x.q)
+    ∙ chosen_is x (exponent_of_two x.q) refl h
