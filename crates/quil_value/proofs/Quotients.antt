@@ -1,5 +1,5 @@
 -- What is settled is the same number.
-use Rattle.std.proofs.Common.{◌≡◌, refl, sym, ◌∙◌, ap, subst, ℕ, zero, suc, ◌*◌, ◌/◌, ◌^◌, ◌<◌, ◌==◌, Bool, ◌&&◌, true, false, Option, Some, None, Result, Ok, Err, if◌then◌else◌, arith}
+use Rattle.std.proofs.Common.{◌≡◌, refl, sym, ◌∙◌, ap, subst, ℕ, zero, suc, ◌*◌, ◌/◌, ◌^◌, ◌<◌, true, false, Some, None, Result, Ok, Err, if◌then◌else◌}
 use Rattle.std.specs.Prelude.{ℤ, pos, ◌*ℤ◌}
 use Rattle.std.specs.Ordering.{int_eq}
 use Rattle.std.proofs.lemmas.Bool.Decides.{Decides-int_eq}
@@ -8,7 +8,6 @@ use Rattle.qvm_ring.specs.Ring.{Element, nought, unit, whole_number, times, is_z
 use Rattle.qvm_ring.proofs.Associative.{times_assoc}
 use Rattle.qvm_ring.proofs.Elements.{nought_if_zero, times_nought}
 use Rattle.qvm_ring.proofs.RingLemmas.{same_element, root_two_times_quotient}
-use Rattle.quil_number.specs.declared.fraction.Fraction.{Fraction}
 use Rattle.quil_number.specs.Fraction.{lowest}
 use Rattle.quil_number.proofs.Meanings.{lowest_terms}
 use Rattle.quil_value.specs.declared.lack.Lack.{Lack}
@@ -35,9 +34,11 @@ abbrev IsLeastOf : Element → ℕ → Exact → Type 0
 IsLeastOf z m x = (times (numerator x) (root_power m) ≡ times z (whole_number (denominator x))) × (power_of_pi x ≡ pos 0)
 
 least_up : (z : Element) (m : ℕ) (x : Exact) → is_divisible z ≡ true → IsLeastOf (quotient z) m x → IsLeastOf z (suc m) x
-least_up z m x h e =
-    (root_first (numerator x) (root_power m) ∙ ap (times root_two) e.0 ∙ sym (times_assoc root_two (quotient z) (whole_number (denominator x)))
-    ∙ ap (λ (t : Element). times t (whole_number (denominator x))) (root_two_times_quotient z h), e.1)
+least_up z m x h e = (
+  root_first (numerator x) (root_power m) ∙ ap (times root_two) e.0 ∙ sym (times_assoc root_two (quotient z) (whole_number (denominator x)))
+      ∙ ap (λ (t : Element). times t (whole_number (denominator x))) (root_two_times_quotient z h),
+  e.1,
+)
 
 least_means : (z : Element) (m : ℕ) → IsLeastOf z m (least z m)
 least_means z zero = (ap (λ (t : Element). times t unit) (times_unit_right z), refl)
@@ -52,10 +53,12 @@ ring_made z n j h =
     let w = divided_by g z in
     let x = least w (2 * j) in
     let m = least_means w (2 * j) in
-    let e : n ≡ 2 ^ j * g = sym (divided_whole z n) ∙ ap (λ (k : ℕ). k * g) (sym (exponent_found (n / g) j h)) in
-    (ap (times (numerator x)) (ap whole_number e ∙ sym (whole_times (2 ^ j) g)) ∙ sym (times_assoc (numerator x) (whole_number (2 ^ j)) (whole_number g))
-    ∙ ap (λ (t : Element). times t (whole_number g)) (ap (times (numerator x)) (sym (root_power_twice j)) ∙ m.0)
-    ∙ last_two w (whole_number (denominator x)) (whole_number g) ∙ ap (λ (t : Element). times t (whole_number (denominator x))) (divided_times z n), λ s. m.1)
+    let e : n ≡ 2 ^ j * g = sym (divided_whole z n) ∙ ap (λ (k : ℕ). k * g) (sym (exponent_found (n / g) j h)) in (
+      ap (times (numerator x)) (ap whole_number e ∙ sym (whole_times (2 ^ j) g)) ∙ sym (times_assoc (numerator x) (whole_number (2 ^ j)) (whole_number g))
+          ∙ ap (λ (t : Element). times t (whole_number g)) (ap (times (numerator x)) (sym (root_power_twice j)) ∙ m.0)
+          ∙ last_two w (whole_number (denominator x)) (whole_number g) ∙ ap (λ (t : Element). times t (whole_number (denominator x))) (divided_times z n),
+      λ s. m.1,
+    )
 
 none_either : (y : ℤ) (n q : ℕ) → y ≡ pos 0 → pos 0 *ℤ pos n ≡ y *ℤ pos q
 none_either y n q e = zero-*ℤ (pos n) ∙ sym (zero-*ℤ (pos q)) ∙ ap (λ (t : ℤ). t *ℤ pos q) (sym e)
@@ -88,9 +91,9 @@ number_made z n w some e =
     elim (exponent_of_two (n / content z n)) as (λ o. exponent_of_two (n / content z n) ≡ o → by_exponent o x (is_rational z) (lowest z.a n) ≡ Ok w → IsMade z n (pos 0) w) [
       | Some j ↦ λ h f. told z n (pos 0) (least x (2 * j)) w (ring_made z n j h) f
       | None ↦ λ h. elim (is_rational z) as (λ b. is_rational z ≡ b → by_exponent None x b (lowest z.a n) ≡ Ok w → IsMade z n (pos 0) w) [
-          | true ↦ λ r f. told z n (pos 0) (Rational (lowest z.a n)) w (real_over z n some r, λ s. refl) f
-          | false ↦ λ r f. refused z n (pos 0) w NotExact f
-        ] refl
+        | true ↦ λ r f. told z n (pos 0) (Rational (lowest z.a n)) w (real_over z n some r, λ s. refl) f
+        | false ↦ λ r f. refused z n (pos 0) w NotExact f
+      ] refl
     ] refl e
 
 angle_made : (z : Element) (n : ℕ) (w : Exact) → 0 < n → settled_angle z n ≡ Ok w → IsMade z n (pos 1) w
@@ -98,9 +101,9 @@ angle_made z n w some e =
     elim (is_rational z) as (λ b. is_rational z ≡ b → (if b then Ok (Pi (lowest z.a n)) else (if is_imaginary z then Ok (ImagPi (lowest z.c n)) else Err NotExact)) ≡ Ok w → IsMade z n (pos 1) w) [
       | true ↦ λ r f. told z n (pos 1) (Pi (lowest z.a n)) w (real_over z n some r, λ s. refl) f
       | false ↦ λ r. elim (is_imaginary z) as (λ b. is_imaginary z ≡ b → (if b then Ok (ImagPi (lowest z.c n)) else Err NotExact) ≡ Ok w → IsMade z n (pos 1) w) [
-          | true ↦ λ i f. told z n (pos 1) (ImagPi (lowest z.c n)) w (imag_over z n some i, λ s. refl) f
-          | false ↦ λ i f. refused z n (pos 1) w NotExact f
-        ] refl
+        | true ↦ λ i f. told z n (pos 1) (ImagPi (lowest z.c n)) w (imag_over z n some i, λ s. refl) f
+        | false ↦ λ i f. refused z n (pos 1) w NotExact f
+      ] refl
     ] refl e
 
 nought_made : (z : Element) (n : ℕ) (k : ℤ) → is_zero z ≡ true → IsMade z n k (Ring nought 0)
@@ -112,9 +115,9 @@ other_made z n k w some e =
     elim (int_eq k (pos 0)) as (λ b. int_eq k (pos 0) ≡ b → (if b then settled_number z n else (if int_eq k (pos 1) then settled_angle z n else Err NotExact)) ≡ Ok w → IsMade z n k w) [
       | true ↦ λ h f. subst (λ i. IsMade z n i w) (sym ((Decides-int_eq k (pos 0)).0 h)) (number_made z n w some f)
       | false ↦ λ h. elim (int_eq k (pos 1)) as (λ b. int_eq k (pos 1) ≡ b → (if b then settled_angle z n else Err NotExact) ≡ Ok w → IsMade z n k w) [
-          | true ↦ λ i f. subst (λ j. IsMade z n j w) (sym ((Decides-int_eq k (pos 1)).0 i)) (angle_made z n w some f)
-          | false ↦ λ i f. refused z n k w NotExact f
-        ] refl
+        | true ↦ λ i f. subst (λ j. IsMade z n j w) (sym ((Decides-int_eq k (pos 1)).0 i)) (angle_made z n w some f)
+        | false ↦ λ i f. refused z n k w NotExact f
+      ] refl
     ] refl e
 
 made : (z : Element) (n : ℕ) (k : ℤ) (w : Exact) → settled z n k ≡ Ok w → 0 < n → IsMade z n k w
