@@ -13,4 +13,4 @@ pub use form_laws::{common_divisors, least_powers, powers_of_two};
 pub use lack::Lack;
 pub use laws::cofactors;
 pub use low_end::{Division, divided};
-pub use quotient_laws::{scaled_fractions, settled_fractions, settled_values};
+pub use quotient_laws::{equal_fractions, scaled_fractions, settled_fractions, settled_values};
