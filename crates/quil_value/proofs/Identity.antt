@@ -10,7 +10,6 @@ use Rattle.qvm_ring.proofs.Associative.{times_assoc}
 use Rattle.qvm_ring.proofs.Bits.{power_positive}
 use Rattle.qvm_ring.proofs.Elements.{nought_if_zero, times_nought}
 use Rattle.quil_number.specs.declared.fraction.Fraction.{Fraction}
-use Rattle.quil_number.specs.Divisor.{common_divisor}
 use Rattle.quil_number.specs.Fraction.{lowest}
 use Rattle.quil_number.proofs.Divisors.{common_divisor_from}
 use Rattle.quil_value.specs.declared.lack.Lack.{Lack}

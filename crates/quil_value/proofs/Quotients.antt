@@ -1,5 +1,5 @@
 -- What is settled is the same number.
-use Rattle.std.proofs.Common.{◌≡◌, refl, sym, ◌∙◌, ap, subst, ℕ, zero, suc, ◌*◌, ◌/◌, ◌^◌, ◌<◌, ◌==◌, Bool, ◌&&◌, true, false, Option, Some, None, Result, Ok, Err, if◌then◌else◌, arith}
+use Rattle.std.proofs.Common.{◌≡◌, refl, sym, ◌∙◌, ap, subst, ℕ, zero, suc, ◌*◌, ◌/◌, ◌^◌, ◌<◌, true, false, Some, None, Result, Ok, Err, if◌then◌else◌}
 use Rattle.std.specs.Prelude.{ℤ, pos, ◌*ℤ◌}
 use Rattle.std.specs.Ordering.{int_eq}
 use Rattle.std.proofs.lemmas.Bool.Decides.{Decides-int_eq}
@@ -8,7 +8,6 @@ use Rattle.qvm_ring.specs.Ring.{Element, nought, unit, whole_number, times, is_z
 use Rattle.qvm_ring.proofs.Associative.{times_assoc}
 use Rattle.qvm_ring.proofs.Elements.{nought_if_zero, times_nought}
 use Rattle.qvm_ring.proofs.RingLemmas.{same_element, root_two_times_quotient}
-use Rattle.quil_number.specs.declared.fraction.Fraction.{Fraction}
 use Rattle.quil_number.specs.Fraction.{lowest}
 use Rattle.quil_number.proofs.Meanings.{lowest_terms}
 use Rattle.quil_value.specs.declared.lack.Lack.{Lack}

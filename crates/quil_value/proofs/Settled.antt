@@ -99,3 +99,7 @@ settled_scaled z n c k some up =
     ap (λ (t : Element). settled t (c * n) k) (times_comm (whole_number c) z ∙ times_whole z c)
     ∙ ap (λ (b : Bool). by_kind b k (settled_number (scaled z c) (c * n)) (settled_angle (scaled z c) (c * n))) (is_zero_scaled z c some)
     ∙ ap₂ (by_kind (is_zero z) k) (number_scaled z n c some up) (angle_scaled z n c some up)
+
+pub same_settled : (z : Element) (n : ℕ) (w : Element) (m : ℕ) (k : ℤ) → 0 < n → 0 < m → scaled_by m z ≡ scaled_by n w → settled z n k ≡ settled w m k
+same_settled z n w m k some up e =
+    sym (settled_scaled z n m k up some) ∙ ap₂ (λ (t : Element) (i : ℕ). settled t i k) e (mul_comm m n) ∙ settled_scaled w m n k some up

@@ -30,3 +30,4 @@ pub use quotient_laws::{scaled_fractions, settled_fractions, settled_values};
 pub use ring_number::{lowered, raised, sum};
 pub use ring_product::product;
 pub use value::{Kind, RingNumber, Value};
+pub use quotient_laws::{equal_fractions, scaled_fractions, settled_fractions, settled_values};

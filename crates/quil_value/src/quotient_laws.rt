@@ -23,3 +23,9 @@ pub fn settled_fractions()
     ensures number { (z : Element) (n : ℕ) (k : ℤ) (w : Exact) → settled z n k ≡ Ok w → 0 < n → scaled_by n (numerator w) ≡ scaled_by (denominator w) z }
     ensures power { (z : Element) (n : ℕ) (k : ℤ) (w : Exact) → settled z n k ≡ Ok w → 0 < n → is_zero z ≡ false → power_of_pi w ≡ k }
 {}
+
+/// Equal fractions have one value: z/n is w/m where m·z is n·w.
+#[tactic(auto, using(crate::proofs::Settled::same_settled))]
+pub fn equal_fractions()
+    ensures { (z : Element) (n : ℕ) (w : Element) (m : ℕ) (k : ℤ) → 0 < n → 0 < m → scaled_by m z ≡ scaled_by n w → settled z n k ≡ settled w m k }
+{}
