@@ -17,7 +17,7 @@ use Rattle.quil_value.proofs.Twos.{exponent_found}
 use Rattle.quil_value.specs.Exact.{Exact, Rational, exponent_of_two, divided_by, is_rational, settled_number}
 use Rattle.qvm_ring.specs.Ring.{Element}
 use Rattle.std.specs.Prelude.{Option, Some, None, Result, Ok, Err}
-use Rattle.quil_value.specs.Literals.{real_number}
+use Rattle.quil_value.specs.RealNumbers.{real_number}
 use Rattle.quil_value.specs.Forms.{IsInLowestTerms}
 
 with_nought : (n : ℕ) → common_divisor 0 n ≡ n

@@ -6,4 +6,4 @@ pub mod Examples
 pub mod RingNumbers
 pub mod Value
 pub mod Angles
-pub mod Literals
+pub mod RealNumbers

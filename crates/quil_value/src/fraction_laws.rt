@@ -1,4 +1,4 @@
-//! The values of literals.
+//! What a fraction in lowest terms is as a value.
 
 ghost use Rattle.std.specs.Prelude.{◌≡◌, Some, None, Ok, ◌^◌, ◌*◌, ℕ, ℤ, nat_abs};
 ghost use Rattle.std.specs.Int.{IsGcd};
@@ -6,7 +6,7 @@ ghost use Rattle.quil_number.specs.declared.fraction.Fraction.{Fraction};
 ghost use Rattle.quil_number.specs.Fraction.{lowest};
 ghost use Rattle.quil_value.specs.Exact.{Ring, Rational, least, content, exponent_of_two, settled_number};
 ghost use Rattle.quil_value.specs.Forms.{IsInLowestTerms};
-ghost use Rattle.quil_value.specs.Literals.{real_number};
+ghost use Rattle.quil_value.specs.RealNumbers.{real_number};
 
 /// A fraction in lowest terms has nothing to divide out: no number above 1 divides it, and where its denominator is a power
 /// of two it is a ring number in its least form.

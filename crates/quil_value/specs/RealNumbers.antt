@@ -1,0 +1,6 @@
+-- Whole numbers in the ring. Nothing here has a width.
+use Rattle.std.specs.Prelude.{ℤ, pos}
+use Rattle.qvm_ring.specs.Ring.{Element}
+
+abbrev pub real_number : ℤ → Element
+real_number p = record { a = p; b = pos 0; c = pos 0; d = pos 0 }
