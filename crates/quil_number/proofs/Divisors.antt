@@ -59,10 +59,10 @@ has_gcd (suc n) a b h = elim (cases_lt 0 b) [
   | inr none ↦ (a, IsGcd-from_zero a b (omega arith))
 ]
 
-divides_true : (d n : ℕ) → d ∣ n → divides d n ≡ true
+pub divides_true : (d n : ℕ) → d ∣ n → divides d n ≡ true
 divides_true d n h = eq-eqb (n % d) 0 (mod-eq-zero_of_dvd d h)
 
-divides_is : (d n : ℕ) → divides d n ≡ true → d ∣ n
+pub divides_is : (d n : ℕ) → divides d n ≡ true → d ∣ n
 divides_is d n e = dvd_of_mod-eq-zero d ((Decides-eqb (n % d) 0).0 e)
 
 zero_both : (a b g m : ℕ) → IsGcd a b g → g ≡ 0 → g < m → m ≤ a + b → ⊥

@@ -1,3 +1,4 @@
+pub mod BinaryEnds
 pub mod Divisors
 pub mod Fractions
 pub mod Literals

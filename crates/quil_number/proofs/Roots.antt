@@ -8,7 +8,7 @@ use Rattle.quil_number.specs.Root.{root}
 use Rattle.quil_number.proofs.Divisors.{greatest_is, greatest_none, greatest_passes}
 
 -- a test of equality fails where the numbers differ
-unequal : (a b : ℕ) → (a ≡ b → ⊥) → (a == b) ≡ false
+pub unequal : (a b : ℕ) → (a ≡ b → ⊥) → (a == b) ≡ false
 unequal a b h = elim (cases_Bool (a == b)) [ inl holds ↦ absurd (h ((Decides-eqb a b).0 holds)) | inr fails ↦ fails ]
 
 square_grows : (r m : ℕ) → r < m → (r + 1) * (r + 1) ≤ m * m

@@ -1,9 +1,10 @@
 -- The number that a literal writes: digits, then perhaps a point and digits, then perhaps an exponent of ten.
 -- What stands behind these, as the `i` of an imaginary literal, doesn't count. Nothing here has a width.
-use Rattle.std.specs.Prelude.{ℕ, suc, ◌+◌, ◌-◌, ◌*◌, ◌^◌, ◌==◌, ℤ, pos, negsuc, ◌-ℤ◌, neg_ℤ, ◌||◌, List, [], ◌∷◌, ◌++◌, length, take, drop, if◌then◌else◌}
+use Rattle.std.specs.Prelude.{ℕ, suc, ◌+◌, ◌-◌, ◌*◌, ◌^◌, ◌==◌, ℤ, pos, negsuc, ◌-ℤ◌, neg_ℤ, ◌||◌, List, [], ◌∷◌, ◌++◌, length, take, drop, reverse, Bool, if◌then◌else◌}
 use Rattle.std.specs.List.{prefix_len}
 use Rattle.std.specs.Char.{is_ascii_digit}
 use Rattle.quil_number.specs.declared.fraction.Fraction.{Fraction}
+use Rattle.quil_number.specs.Divisor.{divides}
 use Rattle.quil_number.specs.Fraction.{lowest}
 
 -- the digits at the front
@@ -55,3 +56,11 @@ decimal_value text =
     let rest = behind_digits text in
     let places = fraction_digits rest in
     scaled (number (digits text ++ places)) (exponent (behind_fraction rest) -ℤ pos (length places))
+
+-- without the zeros at the end
+abbrev pub without_zeros : List ℕ → List ℕ
+without_zeros digits = reverse (drop (prefix_len (λ b. b == 48) (reverse digits)) (reverse digits))
+
+-- whether its last 63 digits but zeros, as places behind a point, are a whole number over a power of two
+abbrev pub has_binary_end : List ℕ → Bool
+has_binary_end text = divides (5 ^ 63) (number (without_zeros (digits text ++ fraction_digits (behind_digits text))))

@@ -6,6 +6,7 @@
 //! there is no root no number's square is the one asked for, and a literal's value is that of its parts as they are written.
 #![tactic(auto)]
 
+mod binary_end;
 mod digits;
 mod divisor;
 mod fraction;
@@ -15,6 +16,7 @@ mod part;
 mod places;
 mod square_root;
 
+pub use binary_end::has_binary_end;
 pub use divisor::gcd;
 pub use fraction::{Fraction, TooWide, lowest};
 pub use laws::{

@@ -1,6 +1,6 @@
 //! Questions with their answers by hand or by Python's fractions, and literals of a million digits.
 
-use crate::{Fraction, TooWide, decimal, fraction_root, gcd, lowest, root};
+use crate::{Fraction, TooWide, decimal, fraction_root, gcd, has_binary_end, lowest, root};
 use std::alloc::Global;
 use std::test::*;
 
@@ -37,6 +37,11 @@ fn shown_root(alloc: Global, number: &str) -> Said {
     Ok(text?)
 }
 
+fn shown_end(alloc: Global, text: &str) -> Said {
+    let found = has_binary_end(text.as_bytes());
+    Ok(format!(in alloc; "{found}")?)
+}
+
 // A fraction `p q`.
 fn fraction(text: &str) -> Fraction {
     let (p, q) = text.split_once(" ").unwrap_or((text, "1"));
@@ -61,6 +66,7 @@ fn answer(alloc: Global, question: &str) -> Said {
         "root" => shown_root(alloc, rest),
         "lowest" => shown(alloc, lowest_of(fraction(rest))),
         "fraction_root" => shown(alloc, fraction_root(fraction(rest))),
+        "binary_end" => shown_end(alloc, rest),
         _ => shown_value(alloc, rest),
     }
 }
@@ -134,6 +140,17 @@ decimal 0.0e-999999999999 => 0/1
 decimal 1e36893488147419103231 => wide/1
 decimal 1e36893488147419103233 => wide/1
 decimal 1e-36893488147419103233 => fine
+binary_end 108420217248550443400745280086994171142578125 => true
+binary_end 21684043449710088680149056017398834228515625 => false
+binary_end 325260651745651330202235840260982513427734375 => true
+binary_end 216840434497100886801490560173988342285156250 => false
+binary_end 108420217248550443400745280086994171142578126 => false
+binary_end 0.108420217248550443400745280086994171142578125 => true
+binary_end 1084202172485504434007452800869941711425.781250000e7i => true
+binary_end 10842021724855044340074528008699417114257812500.000 => true
+binary_end 0 => true
+binary_end 00.00i => true
+binary_end 5 => false
 ";
     for row in table.lines() {
         let (question, want) = row.split_once(" => ").unwrap_or(("", ""));
@@ -174,6 +191,25 @@ fn a_million_digits(rt: HostRuntime) -> Result<(), Fail> {
         let (form, want) = row.split_once(" => ").unwrap_or(("", ""));
         let text = long(alloc, form)?;
         let found = shown_value(alloc, &text)?;
+        assert_eq!(rt; found.as_str(), want, "at {row}");
+    }
+    Ok(())
+}
+
+#[test]
+fn ends_of_a_million_digits(rt: HostRuntime) -> Result<(), Fail> {
+    let alloc = rt.alloc();
+    let table = "108420217248550443400745280086994171142578125+0+.0 => true
+108420217248550443400745280086994171142578.125+0+ => true
+7+0+108420217248550443400745280086994171142578125 => true
+7+3+108420217248550443400745280086994171142578125 => false
+0.+5+ => false
+0.+0+ => true
+";
+    for row in table.lines() {
+        let (form, want) = row.split_once(" => ").unwrap_or(("", ""));
+        let text = long(alloc, form)?;
+        let found = shown_end(alloc, &text)?;
         assert_eq!(rt; found.as_str(), want, "at {row}");
     }
     Ok(())

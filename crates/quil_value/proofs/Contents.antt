@@ -1,5 +1,5 @@
 -- What divides n and all coordinates of z.
-use Rattle.std.proofs.Common.{◌≡◌, sym, ◌∙◌, ap, subst, ℕ, suc, ◌*◌, ◌/◌, ◌<◌}
+use Rattle.std.proofs.Common.{◌≡◌, sym, ◌∙◌, ap, subst, ℕ, zero, suc, ◌*◌, ◌/◌, ◌<◌, arith}
 use Rattle.std.specs.Prelude.{ℤ, pos, negsuc, ◌*ℤ◌, neg_ℤ, nat_abs, int_div}
 use Rattle.std.specs.Int.{◌∣◌}
 use Rattle.std.proofs.lemmas.Int.{unsigned_abs-mul}
@@ -60,6 +60,13 @@ divided_times z n =
 
 pub divided_whole : (z : Element) (n : ℕ) → n / content z n * content z n ≡ n
 divided_whole z n = div-mul_cancel (content z n) (content_divides z n).whole
+
+pub rest_positive : (z : Element) (n : ℕ) → 0 < n → 0 < n / content z n
+rest_positive z n some = factor (n / content z n) (content z n) (subst (λ (m : ℕ). 0 < m) (sym (divided_whole z n)) some)
+  where
+    factor : (m g : ℕ) → 0 < m * g → 0 < m
+    factor zero g h = let z : 0 * g ≡ 0 = omega arith in absurd (omega (arith, z, h))
+    factor (suc m) g h = omega arith
 
 -- where z k is a multiple of n, n in lowest terms divides k
 pub rest_divides : (z w : Element) (n k : ℕ) → 0 < n → 0 < k → scaled w n ≡ scaled z k → n / content z n ∣ k

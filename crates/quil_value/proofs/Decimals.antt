@@ -30,10 +30,10 @@ content_one x h =
     ∙ ap (λ (n : ℕ). common_divisor (nat_abs x.p) n) (with_nought x.q)
     ∙ common_divisor_from (nat_abs x.p) x.q 1 h.lowest
 
-over_one : (n : ℕ) → n / 1 ≡ n
+pub over_one : (n : ℕ) → n / 1 ≡ n
 over_one n = omega arith
 
-int_over_one : (z : ℤ) → int_div z (pos 1) ≡ z
+pub int_over_one : (z : ℤ) → int_div z (pos 1) ≡ z
 int_over_one (pos n) = ap pos (over_one n)
 int_over_one (negsuc n) = ap (λ (k : ℕ). neg_ℤ (pos k)) (over_one (suc n))
 
@@ -44,7 +44,7 @@ lowest_again x h =
     ∙ ap (λ (p : ℤ). record { p = p; q = x.q / 1 }) (int_over_one x.p) ∙ ap (λ (q : ℕ). record { p = x.p; q = q }) (over_one x.q)
 
 -- the numerator over an even denominator is odd
-odd_numerator : (p : ℕ) (k : ℕ) → IsGcd p (2 ^ suc k) 1 → (p % 2 == 0) ≡ false
+pub odd_numerator : (p : ℕ) (k : ℕ) → IsGcd p (2 ^ suc k) 1 → (p % 2 == 0) ≡ false
 odd_numerator p k h = elim (cases_lt 0 (p % 2)) [
   | inl some ↦ let e : p % 2 ≡ 1 = omega arith in ap (λ (n : ℕ). n == 0) e
   | inr none ↦

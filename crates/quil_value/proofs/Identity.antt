@@ -39,7 +39,7 @@ lowest_self : (x : Fraction) → IsInLowestTerms x → lowest x.p x.q ≡ x
 unfolding lowest
 lowest_self x h = ap (over x) (common_divisor_from (nat_abs x.p) x.q 1 h.lowest) ∙ same_fraction (over x 1) x (over_one x.p) (div_one x.q)
 
-not_none : (a : ℕ) → 0 < a → (a == 0) ≡ false
+pub not_none : (a : ℕ) → 0 < a → (a == 0) ≡ false
 not_none a h = elim (eqb_tells a 0) [
   | inl e ↦ absurd (let f : a ≡ 0 = e.1 in omega (arith, h, f))
   | inr e ↦ e.0
@@ -71,7 +71,7 @@ by_exponent o w is_real x = elim o [
   | None ↦ if is_real then Ok (Rational x) else Err NotExact
 ]
 
-rational_some : (x : Fraction) → IsRational x → (nat_abs x.p == 0) ≡ false
+pub rational_some : (x : Fraction) → IsRational x → (nat_abs x.p == 0) ≡ false
 rational_some x h = elim (eqb_tells (nat_abs x.p) 0) [
   | inl e ↦
       let g : IsGcd 0 x.q 1 = subst (λ n. IsGcd n x.q 1) e.1 h.form.lowest in

@@ -8,7 +8,7 @@ use Rattle.quil_value.specs.Forms.{IsLeast}
 use Rattle.quil_value.proofs.Powers.{times_comm, times_unit_right, last_two, cancel_root, cancel_root_power, root_two_divides}
 
 -- x (√2 y) = √2 (x y)
-root_first : (x y : Element) → times x (times root_two y) ≡ times root_two (times x y)
+pub root_first : (x y : Element) → times x (times root_two y) ≡ times root_two (times x y)
 root_first x y = sym (times_assoc x root_two y) ∙ ap (λ (t : Element). times t y) (times_comm x root_two) ∙ times_assoc root_two x y
 
 -- z/√2^m is w/√2^j

@@ -46,7 +46,7 @@ difference_product x y n e =
     none : (p q : ℤ) → p ≡ q → p +ℤ neg_ℤ q ≡ pos 0
     none p q e = same_in _ _ (omega (arith, ints, e))
 
-zero_factor : (m n : ℕ) → 0 < n → m * n ≡ 0 → m ≡ 0
+pub zero_factor : (m n : ℕ) → 0 < n → m * n ≡ 0 → m ≡ 0
 zero_factor m n h e = eq_of_mul-eq-mul_right n h m 0 (e ∙ (let z : 0 ≡ 0 * n = omega arith in z))
 
 pub cancel_int : (x y : ℤ) (n : ℕ) → 0 < n → x *ℤ pos n ≡ y *ℤ pos n → x ≡ y

@@ -41,7 +41,7 @@ divided_of z n c some up =
     (divided_times (scaled z c) (c * n) ∙ sym (times_whole z c) ∙ ap (λ (t : Element). times t (whole_number c)) (sym (divided_times z n))
     ∙ times_assoc w (whole_number g) (whole_number c) ∙ ap (times w) (whole_times g c ∙ ap whole_number (mul_comm g c ∙ sym e)))
 
-zero_test : (a b : ℕ) → (a ≡ 0 → b ≡ 0) → (b ≡ 0 → a ≡ 0) → (a == 0) ≡ (b == 0)
+pub zero_test : (a b : ℕ) → (a ≡ 0 → b ≡ 0) → (b ≡ 0 → a ≡ 0) → (a == 0) ≡ (b == 0)
 zero_test a b f g = elim (eqb_tells a 0) [
   | inl e ↦ e.0 ∙ sym (eq-eqb b 0 (f e.1))
   | inr e ↦ e.0 ∙ sym (elim (eqb_tells b 0) [
@@ -50,20 +50,20 @@ zero_test a b f g = elim (eqb_tells a 0) [
   ])
 ]
 
-no_factor : (a c : ℕ) → 0 < c → a * c ≡ 0 → a ≡ 0
+pub no_factor : (a c : ℕ) → 0 < c → a * c ≡ 0 → a ≡ 0
 no_factor zero c some e = refl
 no_factor (suc a) c some e = absurd (let h : 0 < suc a * c = mul-pos (omega arith) some in omega (arith, h, e))
 
 zero_scaled : (x : ℤ) (c : ℕ) → 0 < c → (nat_abs (x *ℤ pos c) == 0) ≡ (nat_abs x == 0)
 zero_scaled x c some = ap (λ (n : ℕ). n == 0) (unsigned_abs-mul x (pos c)) ∙ zero_test (nat_abs x * c) (nat_abs x) (no_factor (nat_abs x) c some) (λ e. ap (λ (n : ℕ). n * c) e ∙ (omega arith))
 
-is_zero_scaled : (z : Element) (c : ℕ) → 0 < c → is_zero (scaled z c) ≡ is_zero z
+pub is_zero_scaled : (z : Element) (c : ℕ) → 0 < c → is_zero (scaled z c) ≡ is_zero z
 is_zero_scaled z c some = ap₂ (λ (s t : Bool). s && t) (ap₂ (λ (s t : Bool). s && t) (ap₂ (λ (s t : Bool). s && t) (zero_scaled z.a c some) (zero_scaled z.b c some)) (zero_scaled z.c c some)) (zero_scaled z.d c some)
 
-is_rational_scaled : (z : Element) (c : ℕ) → 0 < c → is_rational (scaled z c) ≡ is_rational z
+pub is_rational_scaled : (z : Element) (c : ℕ) → 0 < c → is_rational (scaled z c) ≡ is_rational z
 is_rational_scaled z c some = ap₂ (λ (s t : Bool). s && t) (ap₂ (λ (s t : Bool). s && t) (zero_scaled z.b c some) (zero_scaled z.c c some)) (zero_scaled z.d c some)
 
-is_imaginary_scaled : (z : Element) (c : ℕ) → 0 < c → is_imaginary (scaled z c) ≡ is_imaginary z
+pub is_imaginary_scaled : (z : Element) (c : ℕ) → 0 < c → is_imaginary (scaled z c) ≡ is_imaginary z
 is_imaginary_scaled z c some = ap₂ (λ (s t : Bool). s && t) (ap₂ (λ (s t : Bool). s && t) (zero_scaled z.a c some) (zero_scaled z.b c some)) (zero_scaled z.d c some)
 
 lowest_scaled : (x : ℤ) (n c : ℕ) → 0 < c → 0 < n → lowest (x *ℤ pos c) (c * n) ≡ lowest x n

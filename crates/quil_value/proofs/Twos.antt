@@ -1,9 +1,9 @@
 -- Powers of two and what divides them.
-use Rattle.std.proofs.Common.{◌≡◌, refl, sym, ◌∙◌, ap, subst, ℕ, zero, suc, ◌*◌, ◌/◌, ◌%◌, ◌^◌, ◌<◌, ◌≤◌, ◌==◌, inl, inr, false, Some, arith}
+use Rattle.std.proofs.Common.{◌≡◌, refl, sym, ◌∙◌, ap, subst, ℕ, zero, suc, ◌*◌, ◌/◌, ◌%◌, ◌^◌, ◌<◌, ◌≤◌, ◌==◌, inl, inr, false, Some, None, arith}
 use Rattle.std.specs.Int.{IsGcd, ◌∣◌}
 use Rattle.std.proofs.lemmas.Bool.{eq-eqb, eqb-true, cases_lt}
 use Rattle.std.proofs.lemmas.Bool.Decides.{eqb_tells}
-use Rattle.std.proofs.Math.Pow.{pow-lt}
+use Rattle.std.proofs.Math.Pow.{pow-lt, pow_mono}
 use Rattle.std.proofs.Math.Nat.{eq-one_of_dvd-one, one-dvd, dvd_of_mul-dvd-mul_left}
 use Rattle.std.proofs.lemmas.Nat.Gcd.{IsGcd-from_mod, dvd_refl}
 use Rattle.quil_number.proofs.Divisors.{greatest_is, greatest_passes}
@@ -49,3 +49,22 @@ power_divisor (suc j) d h =
           let half = power_divisor j (d / 2) (dvd_of_mul-dvd-mul_left (d / 2) (let z : 0 < 2 = omega arith in z) (subst (λ n. n ∣ 2 * 2 ^ j) e k)) in
           (suc half.0, e ∙ ap (λ n. 2 * n) half.1 ∙ (let f : 2 * 2 ^ half.0 ≡ 2 ^ suc half.0 = omega arith in f))
     ]
+
+-- the exponent of a number that is a power of two, and none between two powers
+pub exponent_at : (n k : ℕ) → 2 ^ k ≡ n → exponent_of_two n ≡ Some k
+exponent_at n k e = subst (λ m. exponent_of_two m ≡ Some k) e (exponent_is k)
+
+only_power : (n k j : ℕ) → 2 ^ k ≤ n → n < 2 * 2 ^ k → 2 ^ j ≡ n → 2 ^ k ≡ n
+only_power n k j low high e = elim (cases_lt j k) [
+  | inl below ↦ absurd (let l : 2 ^ j < 2 ^ k = pow-lt below in omega (arith, l, low, e))
+  | inr above ↦ elim (cases_lt k j) [
+    | inl over ↦ absurd (let l : 2 ^ suc k ≤ 2 ^ j = pow_mono over in let d : 2 ^ suc k ≡ 2 * 2 ^ k = omega arith in omega (arith, l, d, high, e))
+    | inr under ↦ let same : k ≡ j = omega (arith, above, under) in ap (λ (i : ℕ). 2 ^ i) same ∙ e
+  ]
+]
+
+pub exponent_none : (n k : ℕ) → 2 ^ k ≤ n → n < 2 * 2 ^ k → (2 ^ k ≡ n → ⊥) → exponent_of_two n ≡ None
+exponent_none n k low high other = elim (exponent_of_two n) as (λ o. exponent_of_two n ≡ o → o ≡ None) [
+  | Some j ↦ λ e. absurd (other (only_power n k j low high (exponent_found n j e)))
+  | None ↦ λ e. refl
+] refl

@@ -1,8 +1,8 @@
--- Angles in eighths of a turn. Nothing here has a width.
-use Rattle.std.specs.Prelude.{ℕ, zero, suc, Result, Ok, Err, ◌%◌, ◌==◌, ◌^◌, nat_lt, ℤ, pos, negsuc, ◌*ℤ◌, nat_abs, int_div, Option, Some, None, option_and_then, if◌then◌else◌}
+-- Whole numbers, and angles in eighths of a turn. Nothing here has a width.
+use Rattle.std.specs.Prelude.{ℕ, zero, suc, Result, Ok, Err, ◌%◌, ◌==◌, ◌^◌, nat_lt, ℤ, pos, negsuc, ◌*ℤ◌, nat_abs, int_div, Option, Some, None, option_and_then, ◌&&◌, if◌then◌else◌}
 use Rattle.qvm_ring.specs.Ring.{Element, unit, plus, negated, times, conjugate, is_zero}
 use Rattle.quil_number.specs.declared.fraction.Fraction.{Fraction}
-use Rattle.quil_value.specs.Exact.{Exact, Ring, Rational, Pi, ImagPi, least}
+use Rattle.quil_value.specs.Exact.{Exact, Ring, Rational, Pi, ImagPi, least, is_rational}
 use Rattle.quil_value.specs.declared.lack.Lack.{Lack}
 use Rattle.quil_value.specs.declared.lack.Lack.TheVariants.{NotExact}
 
@@ -65,3 +65,10 @@ cis k = Ring (turn k) 0
 abbrev pub at_eighths : (ℤ → Exact) → Option ℤ → Result Exact Lack
 at_eighths f None = Err NotExact
 at_eighths f (Some k) = Ok (f k)
+
+-- the whole number that a value is, if it is one
+abbrev pub whole_of : Exact → Option ℤ
+whole_of (Ring z m) = if m == 0 && is_rational z then Some z.a else None
+whole_of (Rational x) = None
+whole_of (Pi x) = None
+whole_of (ImagPi x) = None

@@ -3,7 +3,15 @@ pub mod Views
 pub mod Division
 pub mod Forms
 pub mod Examples
-pub mod RingNumbers
 pub mod Value
+pub mod Kinds
 pub mod Angles
 pub mod RealNumbers
+pub mod Results
+pub mod Table
+pub mod Literals
+pub mod Sums
+pub mod SumForms
+pub mod AngleSums
+pub mod Worked
+pub mod Runs

@@ -122,7 +122,8 @@ fn product_d(d: Digits, w: Wide) -> i128
     all(first, second, third, fourth)
 }
 
-fn all(p: i128, q: i128, r: i128, s: i128) -> i128
+// p + q + r + s
+pub(crate) fn all(p: i128, q: i128, r: i128, s: i128) -> i128
     requires p { nat_abs p ≤ 2 ^ 65 }
     requires q { nat_abs q ≤ 2 ^ 65 }
     requires r { nat_abs r ≤ 2 ^ 65 }
@@ -133,7 +134,7 @@ fn all(p: i128, q: i128, r: i128, s: i128) -> i128
     sum(sum(sum(p, q), r), s)
 }
 
-fn digit_product(d: Digits, w: Wide) -> Wide
+pub(crate) fn digit_product(d: Digits, w: Wide) -> Wide
     requires { IsWithin (2 ^ 65) (wide_element w) }
     ensures value { wide_element result ≡ times (digits_of d) (wide_element w) }
     ensures bound { IsWithin (2 ^ 67) (wide_element result) }
@@ -158,7 +159,7 @@ fn less(x: Wide, y: Wide) -> Wide
     Wide { a, b, c, d }
 }
 
-fn split_all(x: Wide) -> (Digits, Wide)
+pub(crate) fn split_all(x: Wide) -> (Digits, Wide)
     requires { IsWithin (2 ^ 68) (wide_element x) }
     ensures value { wide_element x ≡ plus (digits_of result.0) (double (wide_element result.1)) }
     ensures bound { IsWithin (2 ^ 67) (wide_element result.1) }
@@ -223,7 +224,7 @@ fn is_near(z: i128) -> bool
     z.unsigned_abs() <= 1 << 62
 }
 
-fn is_all_near(z: Wide) -> bool
+pub(crate) fn is_all_near(z: Wide) -> bool
     ensures { (result ≡ true) ↔ IsWithin (2 ^ 62) (wide_element z) }
 {
     is_near(z.a) && is_near(z.b) && is_near(z.c) && is_near(z.d)

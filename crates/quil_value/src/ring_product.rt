@@ -4,10 +4,13 @@ ghost use Rattle.std.specs.Prelude.{◌≡◌, ◌+◌, ◌^◌, ◌≤◌, nat_
 ghost use Rattle.qvm_ring.specs.Ring.{times};
 ghost use Rattle.qvm_ring.specs.Views.{wide_element};
 ghost use Rattle.qvm_ring.specs.Multiply.{IsWithin};
-ghost use Rattle.quil_value.specs.RingNumbers.{value_of_answer, ring_product};
+ghost use Rattle.quil_value.specs.Exact.{Ring, product_of};
+ghost use Rattle.quil_value.specs.Value.{IsValue};
 
 use crate::lack::Lack;
-use crate::ring_number::settled;
+use crate::ring_number::lowered;
+use crate::settle::bounded;
+use crate::value::{Kind, RingNumber, Value};
 use qvm_ring::Wide;
 
 fn narrow(x: i128) -> i64
@@ -173,13 +176,12 @@ fn times(x: Wide, y: Wide) -> Wide
     Wide { a, b, c, d }
 }
 
-/// x/√2^m · y/√2^n in its one form, or that it is too wide. Both are within the bounds of a value.
-pub fn product(x: Wide, m: u32, y: Wide, n: u32) -> Result<(Wide, u32), Lack>
-    requires left { IsWithin (2 ^ 62) (wide_element x) }
-    requires right { IsWithin (2 ^ 62) (wide_element y) }
-    requires left_power { m ≤ 124 }
-    requires right_power { n ≤ 124 }
-    ensures { value_of_answer result ≡ ring_product (wide_element x) m (wide_element y) n }
+/// The product of two ring numbers, or that it is too wide.
+pub(crate) fn ring_product(x: RingNumber, y: RingNumber) -> Result<Value, Lack>
+    requires left { IsValue (Ring (wide_element x.num) x.m) }
+    requires right { IsValue (Ring (wide_element y.num) y.m) }
+    ensures { result ≡ product_of (Ring (wide_element x.num) x.m) (Ring (wide_element y.num) y.m) }
 {
-    settled(times(x, y), m + n)
+    let (num, m) = lowered(times(x.num, y.num), x.m + y.m);
+    bounded(Kind::Ring(RingNumber { num, m }))
 }

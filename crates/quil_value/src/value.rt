@@ -3,7 +3,8 @@
 ghost use Rattle.std.specs.Prelude.{◌≡◌, ◌<◌, ◌≤◌, ◌^◌, nat_abs};
 ghost use Rattle.qvm_ring.specs.Ring.{is_zero};
 ghost use Rattle.qvm_ring.specs.Views.{wide_element};
-ghost use Rattle.quil_value.specs.Angles.{whole_fourfold, eighths_of, imaginary_eighths_of, in_64_bits, eighths_in_64_bits};
+ghost use Rattle.quil_value.specs.Exact.{is_rational};
+ghost use Rattle.quil_value.specs.Angles.{whole_of, whole_fourfold, eighths_of, imaginary_eighths_of, in_64_bits, eighths_in_64_bits};
 ghost use Rattle.quil_value.specs.Value.{exact_of, IsValue};
 
 use quil_number::Fraction;
@@ -30,20 +31,26 @@ pub enum Kind {
 }
 
 /// An exact value, in its one form and within the bounds.
-#[derive(Drop)]
+#[derive(Clone, Copy, Debug, PartialEq, Eq)]
 pub struct Value {
     kind: Kind,
 }
 
 impl Model for Value {
+    ghost use Rattle.std.proofs.Common.{ap};
     ghost use Rattle.quil_value.specs.Exact.{Exact};
     ghost use Rattle.quil_value.specs.Value.{exact_of, IsValue};
+    ghost use Rattle.quil_value.specs.Kinds.{kind_of, kind_back};
 
     ghost Value = { Exact };
 
     ghost view = { λ v. exact_of v.kind };
 
     ghost invariant = { λ v. IsValue (exact_of v.kind) };
+
+    ghost inverse = { λ x. record { kind = kind_of x } };
+
+    ghost inverse_ok = { λ v h. ap (λ k. record { kind = k }) (kind_back v.kind) };
 }
 
 // 4p/q, if it is whole.
@@ -61,10 +68,17 @@ fn whole_fourfold(x: Fraction) -> Option<i128>
     }
 }
 
-fn is_zero(z: Wide) -> bool
+pub(crate) fn is_zero(z: Wide) -> bool
     ensures { result ≡ is_zero (wide_element z) }
 {
     z.a == 0 && z.b == 0 && z.c == 0 && z.d == 0
+}
+
+// Whether it is a rational times 1.
+pub(crate) fn is_real(z: Wide) -> bool
+    ensures { result ≡ is_rational (wide_element z) }
+{
+    z.b == 0 && z.c == 0 && z.d == 0
 }
 
 fn in_64_bits(k: i128) -> Option<i64>
@@ -92,6 +106,16 @@ impl Value {
         ensures { result ≡ exact_of kind }
     {
         Value { kind }
+    }
+
+    /// The whole number that it is, if it is one.
+    pub fn whole(&self) -> Option<i128>
+        ensures { result ≡ whole_of self.now }
+    {
+        match self.kind() {
+            Kind::Ring(x) if x.m == 0 && is_real(x.num) => Some(x.num.a),
+            _ => None,
+        }
     }
 
     /// The k whose k·π/4 it is, if there is one.

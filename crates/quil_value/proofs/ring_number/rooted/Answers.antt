@@ -1,7 +1,7 @@
 use Rattle.std.proofs.Common.{rules, sym, ◌∙◌}
 use Rattle.qvm_ring.specs.Views.{wide_element}
 use Rattle.qvm_ring.proofs.RingLemmas.{same_element}
-use Rattle.quil_value.proofs.RingSums.{times_root_two}
+use Rattle.quil_value.proofs.RootTwos.{times_root_two}
 use Rattle.quil_value.proofs.ring_number.rooted.Goals as goal
 
 pub returns-clause-value : goal.returns-clause-value
