@@ -92,10 +92,10 @@ fn fault_told(alloc: Global, fault: WorkFault) -> Result<String, AllocError> {
 }
 
 fn told(alloc: Global, answer: Result<Worked, WorkFault>) -> Result<String, AllocError> {
-    match answer {
-        Ok(Worked::Plain(value)) => value_told(alloc, &value),
-        Ok(Worked::Summed(sum)) => sum_told(alloc, &sum),
-        Err(fault) => fault_told(alloc, fault),
+    match &answer {
+        Ok(Worked::Plain(value)) => value_told(alloc, value),
+        Ok(Worked::Summed(sum)) => sum_told(alloc, sum),
+        Err(fault) => fault_told(alloc, *fault),
     }
 }
 

@@ -32,7 +32,7 @@ pub(crate) fn nested_sum(alloc: Global, count: u32) -> Result<Expr, Fail> {
 }
 
 fn push(steps: &mut Vec<Step>, action: Action) -> Result<(), AllocError> {
-    let column = (steps.len() as u32).wrapping_add(1);
+    let column = u32::try_from(steps.len()).unwrap_or(0).saturating_add(1);
     let place = Place { line: 1, column };
     steps.push(Step { place, action })?;
     Ok(())
