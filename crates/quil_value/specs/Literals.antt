@@ -19,8 +19,8 @@ number_literal text =
     let x = decimal_value text in
     bounded (settled (real_number x.p) x.q (pos 0))
 
--- the decimal times i. One with more than 62 places may be of none of the four kinds, and too wide besides: its last 63
--- places tell which of the two is answered.
+-- the decimal times i. One with a denominator above 2^62 has no value: it is of none of the four kinds, or too wide, and its
+-- last 63 digits tell which of the two is answered.
 abbrev pub imaginary_literal : List ℕ → Result Exact Lack
 imaginary_literal text =
     let x = decimal_value text in
