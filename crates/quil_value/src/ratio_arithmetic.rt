@@ -5,6 +5,7 @@ ghost use Rattle.quil_value.specs.Sums.{ratio, ratio_sum, ratio_product, inverse
 ghost use Rattle.quil_value.specs.SumForms.{IsRatio};
 
 use crate::lack::Lack;
+use crate::ring_product::part;
 use quil_number::{Fraction, lowest};
 
 const BOUND: u128 = 1 << 62;
@@ -25,40 +26,13 @@ fn ratio(p: i128, q: u128) -> Result<Fraction, Lack>
     }
 }
 
-fn narrow(x: i128) -> i64
-    requires { nat_abs x ≤ 2 ^ 62 }
-    ensures { result ≡ x }
-{
-    x as i64
-}
-
-fn narrow_product(x: i64, y: i64) -> i128
-    requires left { nat_abs x ≤ 2 ^ 62 }
-    requires right { nat_abs y ≤ 2 ^ 62 }
-    ensures value { result ≡ x *ℤ y }
-    ensures bound { nat_abs result ≤ 2 ^ 124 }
-{
-    i128::from(x) * i128::from(y)
-}
-
-fn product(x: i128, y: i128) -> i128
-    requires left { nat_abs x ≤ 2 ^ 62 }
-    requires right { nat_abs y ≤ 2 ^ 62 }
-    ensures value { result ≡ x *ℤ y }
-    ensures bound { nat_abs result ≤ 2 ^ 124 }
-{
-    let left = narrow(x);
-    let right = narrow(y);
-    narrow_product(left, right)
-}
-
 fn scaled(x: i128, n: u128) -> i128
     requires left { nat_abs x ≤ 2 ^ 62 }
     requires right { n ≤ 2 ^ 62 }
     ensures value { result ≡ x *ℤ pos n }
     ensures bound { nat_abs result ≤ 2 ^ 124 }
 {
-    product(x, n as i128)
+    part(x, n as i128)
 }
 
 fn add(x: i128, y: i128) -> i128
@@ -101,7 +75,7 @@ pub(crate) fn ratio_product(x: Fraction, y: Fraction) -> Result<Fraction, Lack>
     ensures value { result ≡ ratio_product x y }
     ensures form { IfOk result IsRatio }
 {
-    ratio(product(x.p, y.p), denominator(x.q, y.q))
+    ratio(part(x.p, y.p), denominator(x.q, y.q))
 }
 
 /// 1/x

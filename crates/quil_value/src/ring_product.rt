@@ -29,7 +29,8 @@ fn narrow_product(x: i64, y: i64) -> i128
     i128::from(x) * i128::from(y)
 }
 
-fn part(x: i128, y: i128) -> i128
+/// x · y, both at most 2^62 in absolute value.
+pub(crate) fn part(x: i128, y: i128) -> i128
     requires left { nat_abs x ≤ 2 ^ 62 }
     requires right { nat_abs y ≤ 2 ^ 62 }
     ensures value { result ≡ x *ℤ y }
