@@ -2,3 +2,4 @@ pub mod Layouts
 pub mod Marks
 pub mod Qubits
 pub mod Loads
+pub mod Formulas

@@ -3,8 +3,6 @@ use Rattle.std.specs.Prelude.{ℕ, nat_lt, nat_eq, Bool, true, false, ◌&&◌, 
 use Rattle.std.specs.List.{list_all}
 use Rattle.quil_tree.specs.declared.statement.Qubit.{Qubit}
 use Rattle.quil_tree.specs.declared.statement.Qubit.TheVariants as qubit
-use Rattle.quil_tree.specs.declared.statement.Operand.{Operand}
-use Rattle.quil_tree.specs.declared.statement.Operand.TheVariants as operand
 use Rattle.quil_tree.specs.declared.statement.Gate.{Gate}
 use Rattle.quil_tree.specs.declared.statement.Statement.{Statement}
 use Rattle.quil_tree.specs.declared.statement.Statement.TheVariants as statement
@@ -43,11 +41,6 @@ is_number_if_any (Some q) = is_number q
 abbrev pub is_built_gate : Gate → Bool
 is_built_gate g = nat_eq (length g.modifiers) 0 && (nat_eq (length g.parameters) 0 && (is_some (gate_named g.name.text) && list_all is_number g.qubits))
 
-abbrev pub is_built_operand : Operand → Bool
-is_built_operand (operand.Reference r) = true
-is_built_operand (operand.Literal p s w) = true
-is_built_operand (operand.Formula f) = false
-
 abbrev pub is_built : Statement → Bool
 is_built (statement.Gate g) = is_built_gate g
 is_built (statement.Measure q a) = is_number q
@@ -64,21 +57,21 @@ is_built (statement.Not a) = true
 is_built (statement.Neg a) = true
 is_built (statement.Exchange a b) = true
 is_built (statement.Convert a b) = true
-is_built (statement.Move a x) = is_built_operand x
-is_built (statement.Add a x) = is_built_operand x
-is_built (statement.Sub a x) = is_built_operand x
-is_built (statement.Mul a x) = is_built_operand x
-is_built (statement.Div a x) = is_built_operand x
-is_built (statement.And a x) = is_built_operand x
-is_built (statement.Ior a x) = is_built_operand x
-is_built (statement.Xor a x) = is_built_operand x
+is_built (statement.Move a x) = true
+is_built (statement.Add a x) = true
+is_built (statement.Sub a x) = true
+is_built (statement.Mul a x) = true
+is_built (statement.Div a x) = true
+is_built (statement.And a x) = true
+is_built (statement.Ior a x) = true
+is_built (statement.Xor a x) = true
 is_built (statement.Load a n b) = true
-is_built (statement.Store n a x) = is_built_operand x
-is_built (statement.Eq r a x) = is_built_operand x
-is_built (statement.Gt r a x) = is_built_operand x
-is_built (statement.Ge r a x) = is_built_operand x
-is_built (statement.Lt r a x) = is_built_operand x
-is_built (statement.Le r a x) = is_built_operand x
+is_built (statement.Store n a x) = true
+is_built (statement.Eq r a x) = true
+is_built (statement.Gt r a x) = true
+is_built (statement.Ge r a x) = true
+is_built (statement.Lt r a x) = true
+is_built (statement.Le r a x) = true
 
 -- the refusal of an item that isn't built
 abbrev pub not_built : Item → Option LoadFault

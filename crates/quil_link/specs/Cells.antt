@@ -1,8 +1,9 @@
--- The cells, regions and numbers that the operands of an instruction name.
-use Rattle.std.specs.Prelude.{ℕ, ◌+◌, ◌*◌, nat_lt, List, Option, Some, None, Result, Ok, Err, ℤ, pos, neg_ℤ, bytes_eq, position, slice_get, option_map, option_and_then, ok_or, if◌then◌else◌}
+-- The cells and regions that the operands of an instruction name, and the numbers and values that they are.
+use Rattle.std.specs.Prelude.{ℕ, ◌+◌, ◌*◌, nat_lt, List, Option, Some, None, Result, Ok, Err, ℤ, pos, neg_ℤ, [], ◌∷◌, bytes_eq, position, slice_get, option_map, option_and_then, ok_or, if◌then◌else◌}
 use Rattle.quil_tree.specs.declared.expr.Sign.{Sign}
 use Rattle.quil_tree.specs.declared.expr.Sign.TheVariants as sign
 use Rattle.quil_tree.specs.declared.statement.Reference.{Reference}
+use Rattle.quil_tree.specs.declared.statement.Formula.{Formula}
 use Rattle.quil_tree.specs.declared.statement.Operand.{Operand}
 use Rattle.quil_tree.specs.declared.statement.Operand.TheVariants as operand
 use Rattle.quil_memory.specs.declared.region.Region.{Region}
@@ -10,11 +11,17 @@ use Rattle.quil_memory.specs.CellTypes.{size}
 use Rattle.quil_memory.specs.Layout.{Regions}
 use Rattle.quil_code.specs.declared.load_fault.LoadFault.{LoadFault}
 use Rattle.quil_code.specs.declared.load_fault.LoadFault.TheVariants as fault
-use Rattle.quil_link.specs.declared.term.TypedCell.{TypedCell}
-use Rattle.quil_link.specs.declared.term.TypedSpan.{TypedSpan}
-use Rattle.quil_link.specs.declared.term.Term.{Term}
-use Rattle.quil_link.specs.declared.term.Term.TheVariants as term
-use Rattle.quil_link.specs.Passes.{and_then}
+use Rattle.quil_link.specs.declared.operand.TypedCell.{TypedCell}
+use Rattle.quil_link.specs.declared.operand.TypedSpan.{TypedSpan}
+use Rattle.quil_link.specs.declared.operand.SecondOperand.{SecondOperand}
+use Rattle.quil_link.specs.declared.operand.SecondOperand.TheVariants as second
+use Rattle.quil_tree.specs.Expression.{trees}
+use Rattle.quil_value.specs.declared.lack.Lack.TheVariants.{NotExact}
+use Rattle.quil_value.specs.declared.stop.Stop.{Stop}
+use Rattle.quil_value.specs.declared.stop.Stop.TheVariants.{Whole}
+use Rattle.quil_value.specs.Results.{and_then}
+use Rattle.quil_value.specs.Exact.{Exact}
+use Rattle.quil_value.specs.Worked.{value}
 
 -- the region of a number
 abbrev pub region_span : ℕ → Region → TypedSpan
@@ -48,8 +55,15 @@ literal_value None n = pos n
 literal_value (Some sign.Plus) n = pos n
 literal_value (Some sign.Minus) n = neg_ℤ (pos n)
 
+-- what an expression without parameters comes to: the value of the tree whose steps these are
+abbrev pub formula_value : Formula → Result Exact Stop
+formula_value f = elim (trees f.expr []) [
+  | [] ↦ Err (Whole NotExact)
+  | e ∷ es ↦ value [] e
+]
+
 -- a second operand
-abbrev pub term_at : Regions → ℕ → Operand → Result Term LoadFault
-term_at layout line (operand.Reference a) = and_then (cell_at layout a) (λ c. Ok (term.Cell c))
-term_at layout line (operand.Literal p s w) = Ok (term.Number (literal_value s w.value))
-term_at layout line (operand.Formula f) = Err (fault.NotBuilt line)
+abbrev pub operand_at : Regions → Operand → Result SecondOperand LoadFault
+operand_at layout (operand.Reference a) = and_then (cell_at layout a) (λ c. Ok (second.Cell c))
+operand_at layout (operand.Literal p s w) = Ok (second.Number (literal_value s w.value))
+operand_at layout (operand.Formula f) = Ok (second.Formula f.place (formula_value f))

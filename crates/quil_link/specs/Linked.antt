@@ -1,5 +1,5 @@
 -- What each line of a program becomes, or its first fault: of its addresses from left to right, then of its types, then of its
--- qubits. Qubits are still those of the text.
+-- qubits, or of the value of its second operand. Qubits are still those of the text.
 use Rattle.std.specs.Prelude.{ℕ, nat_eq, List, [], ◌∷◌, Option, Some, None, Result, Ok, Err, ok_or, if◌then◌else◌}
 use Rattle.quil_tree.specs.declared.statement.Reference.{Reference}
 use Rattle.quil_tree.specs.declared.statement.Qubit.{Qubit}
@@ -25,11 +25,17 @@ use Rattle.quil_code.specs.declared.load_fault.LoadFault.{LoadFault}
 use Rattle.quil_code.specs.declared.load_fault.LoadFault.TheVariants as fault
 use Rattle.quil_link.specs.declared.gate.Standard.{Standard}
 use Rattle.quil_link.specs.declared.gate.Standard.TheVariants as standard
-use Rattle.quil_link.specs.declared.term.TypedCell.{TypedCell}
-use Rattle.quil_link.specs.declared.term.Term.{Term}
-use Rattle.quil_link.specs.Passes.{and_then}
+use Rattle.quil_link.specs.declared.operand.TypedCell.{TypedCell}
+use Rattle.quil_link.specs.declared.operand.SecondOperand.{SecondOperand}
+use Rattle.quil_tree.specs.declared.place.Place.{Place}
+use Rattle.quil_value.specs.declared.lack.Lack.{Lack}
+use Rattle.quil_value.specs.declared.lack.Lack.TheVariants.{NotExact, ZeroDivisor, NumberTooWide}
+use Rattle.quil_value.specs.declared.stop.Stop.{Stop}
+use Rattle.quil_value.specs.declared.stop.Stop.TheVariants.{At, Whole}
+use Rattle.quil_value.specs.Results.{and_then}
+use Rattle.quil_link.specs.declared.operand.SecondOperand.TheVariants as second
 use Rattle.quil_link.specs.Built.{gate_named, qubit_number}
-use Rattle.quil_link.specs.Cells.{cell_at, span_named, term_at}
+use Rattle.quil_link.specs.Cells.{cell_at, span_named, operand_at}
 use Rattle.quil_link.specs.Types.{cell_as, typed_move, typed_exchange, typed_sum, typed_product, typed_neg, typed_not, typed_bits, typed_convert, typed_load, typed_store, typed_comparison}
 
 -- ---- classical instructions
@@ -38,6 +44,24 @@ abbrev pub typed : ℕ → Option Classic → Result Instruction LoadFault
 typed line None = Err (fault.TypeClash line)
 typed line (Some c) = Ok (instruction.Classic c)
 
+-- why an expression has no value, at a place of the text
+abbrev pub lack_at : Place → Lack → LoadFault
+lack_at p NotExact = fault.NotExact p.line p.column
+lack_at p ZeroDivisor = fault.ZeroDivisor p.line p.column
+lack_at p NumberTooWide = fault.NumberTooWide p.line p.column
+
+-- what concerns the whole expression stands where it begins
+abbrev pub stop_at : Place → Stop → LoadFault
+stop_at p (At q e) = lack_at q e
+stop_at p (Whole e) = lack_at p e
+
+-- the instruction, if the second operand has a value
+abbrev pub valued : SecondOperand → Result Instruction LoadFault → Result Instruction LoadFault
+valued (second.Cell c) r = r
+valued (second.Number z) r = r
+valued (second.Formula p (Ok x)) r = r
+valued (second.Formula p (Err e)) r = and_then r (λ i. Err (stop_at p e))
+
 -- an instruction of one cell, of two, of a cell and a second operand
 abbrev pub on_cell : Regions → ℕ → (TypedCell → Option Classic) → Reference → Result Instruction LoadFault
 on_cell l line make a = and_then (cell_at l a) (λ c. typed line (make c))
@@ -45,8 +69,8 @@ on_cell l line make a = and_then (cell_at l a) (λ c. typed line (make c))
 abbrev pub on_cells : Regions → ℕ → (TypedCell → TypedCell → Option Classic) → Reference → Reference → Result Instruction LoadFault
 on_cells l line make a b = and_then (cell_at l a) (λ c. and_then (cell_at l b) (λ d. typed line (make c d)))
 
-abbrev pub on_term : Regions → ℕ → (TypedCell → Term → Option Classic) → Reference → Operand → Result Instruction LoadFault
-on_term l line make a x = and_then (cell_at l a) (λ c. and_then (term_at l line x) (λ t. typed line (make c t)))
+abbrev pub on_operand : Regions → ℕ → (TypedCell → SecondOperand → Option Classic) → Reference → Operand → Result Instruction LoadFault
+on_operand l line make a x = and_then (cell_at l a) (λ c. and_then (operand_at l x) (λ t. valued t (typed line (make c t))))
 
 -- LOAD, STORE and a comparison
 abbrev pub linked_load : Regions → ℕ → Reference → List ℕ → Reference → Result Instruction LoadFault
@@ -55,11 +79,11 @@ linked_load l line a name n =
 
 abbrev pub linked_store : Regions → ℕ → List ℕ → Reference → Operand → Result Instruction LoadFault
 linked_store l line name n x =
-    and_then (span_named l name) (λ s. and_then (cell_at l n) (λ i. and_then (term_at l line x) (λ t. typed line (typed_store s i t))))
+    and_then (span_named l name) (λ s. and_then (cell_at l n) (λ i. and_then (operand_at l x) (λ t. valued t (typed line (typed_store s i t)))))
 
 abbrev pub linked_comparison : Regions → ℕ → Comparison → Reference → Reference → Operand → Result Instruction LoadFault
 linked_comparison l line o r a x =
-    and_then (cell_at l r) (λ c. and_then (cell_at l a) (λ d. and_then (term_at l line x) (λ t. typed line (typed_comparison o c d t))))
+    and_then (cell_at l r) (λ c. and_then (cell_at l a) (λ d. and_then (operand_at l x) (λ t. valued t (typed line (typed_comparison o c d t)))))
 
 -- ---- gates, measurement and RESET
 
@@ -128,14 +152,14 @@ linked_statement l line (statement.Not a) = on_cell l line typed_not a
 linked_statement l line (statement.Neg a) = on_cell l line typed_neg a
 linked_statement l line (statement.Exchange a b) = on_cells l line typed_exchange a b
 linked_statement l line (statement.Convert a b) = on_cells l line typed_convert a b
-linked_statement l line (statement.Move a x) = on_term l line typed_move a x
-linked_statement l line (statement.Add a x) = on_term l line (typed_sum sum_operation.Add) a x
-linked_statement l line (statement.Sub a x) = on_term l line (typed_sum sum_operation.Sub) a x
-linked_statement l line (statement.Mul a x) = on_term l line (typed_product product_operation.Mul) a x
-linked_statement l line (statement.Div a x) = on_term l line (typed_product product_operation.Div) a x
-linked_statement l line (statement.And a x) = on_term l line (typed_bits bit_operation.And) a x
-linked_statement l line (statement.Ior a x) = on_term l line (typed_bits bit_operation.Ior) a x
-linked_statement l line (statement.Xor a x) = on_term l line (typed_bits bit_operation.Xor) a x
+linked_statement l line (statement.Move a x) = on_operand l line typed_move a x
+linked_statement l line (statement.Add a x) = on_operand l line (typed_sum sum_operation.Add) a x
+linked_statement l line (statement.Sub a x) = on_operand l line (typed_sum sum_operation.Sub) a x
+linked_statement l line (statement.Mul a x) = on_operand l line (typed_product product_operation.Mul) a x
+linked_statement l line (statement.Div a x) = on_operand l line (typed_product product_operation.Div) a x
+linked_statement l line (statement.And a x) = on_operand l line (typed_bits bit_operation.And) a x
+linked_statement l line (statement.Ior a x) = on_operand l line (typed_bits bit_operation.Ior) a x
+linked_statement l line (statement.Xor a x) = on_operand l line (typed_bits bit_operation.Xor) a x
 linked_statement l line (statement.Load a n b) = linked_load l line a n.text b
 linked_statement l line (statement.Store n a x) = linked_store l line n.text a x
 linked_statement l line (statement.Eq r a x) = linked_comparison l line comparison.Eq r a x

@@ -1,13 +1,9 @@
 -- Passes that follow one another: the first fault is what they give.
 use Rattle.std.specs.Prelude.{◌≡◌, ◌⊎◌, List, [], ◌∷◌, Option, Some, None, Result, Ok, Err}
 use Rattle.std.specs.Option.{option_or}
+use Rattle.quil_value.specs.Results.{and_then}
 use Rattle.quil_code.specs.declared.load_fault.LoadFault.{LoadFault}
 use Rattle.quil_code.specs.declared.load_fault.LoadFault.TheVariants as fault
-
--- what a pass gives, and then what follows from it
-abbrev pub and_then : {A B F : Type 0} → Result A F → (A → Result B F) → Result B F
-and_then (Ok x) f = f x
-and_then (Err e) f = Err e
 
 -- what follows a pass that does no more than find a fault
 abbrev pub unless : {A F : Type 0} → Option F → Result A F → Result A F

@@ -10,10 +10,10 @@ use Rattle.quil_code.specs.Program.{CellFits, SpanFits, Fits}
 use Rattle.quil_link.specs.Built.{qubit_limit}
 use Rattle.quil_code.specs.declared.load_fault.LoadFault.{LoadFault}
 use Rattle.quil_code.specs.declared.load_fault.LoadFault.TheVariants as fault
-use Rattle.quil_link.specs.declared.term.TypedCell.{TypedCell}
-use Rattle.quil_link.specs.declared.term.TypedSpan.{TypedSpan}
-use Rattle.quil_link.specs.declared.term.Term.{Term}
-use Rattle.quil_link.specs.declared.term.Term.TheVariants as term
+use Rattle.quil_link.specs.declared.operand.TypedCell.{TypedCell}
+use Rattle.quil_link.specs.declared.operand.TypedSpan.{TypedSpan}
+use Rattle.quil_link.specs.declared.operand.SecondOperand.{SecondOperand}
+use Rattle.quil_link.specs.declared.operand.SecondOperand.TheVariants as second
 use Rattle.quil_link.specs.Layout.{as_load, item_claim}
 
 -- the layout with an item's region
@@ -31,9 +31,10 @@ CellWithin c bits = CellFits c.kind c.cell bits
 abbrev pub SpanWithin : TypedSpan → ℕ → Type 0
 SpanWithin s bits = SpanFits s.kind s.span bits
 
-abbrev pub TermWithin : Term → ℕ → Type 0
-TermWithin (term.Cell c) bits = CellWithin c bits
-TermWithin (term.Number z) bits = Unit {0}
+abbrev pub OperandWithin : SecondOperand → ℕ → Type 0
+OperandWithin (second.Cell c) bits = CellWithin c bits
+OperandWithin (second.Number z) bits = Unit {0}
+OperandWithin (second.Formula p r) bits = Unit {0}
 
 -- an instruction, or a line, fits so many bits; its qubits are those of the text
 abbrev pub IsLinked : Instruction → ℕ → Type 0

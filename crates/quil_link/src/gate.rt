@@ -4,10 +4,10 @@ ghost use Rattle.std.specs.Prelude.{◌≡◌};
 ghost use Rattle.std.specs.Result.{result_err};
 ghost use Rattle.std.specs.List.{list_all};
 ghost use Rattle.quil_link.specs.Passes.{first_of};
-ghost use Rattle.quil_link.specs.Built.{gate_named, qubit_number, is_number, is_number_if_any, is_built_gate, is_built_operand, is_built, not_built};
+ghost use Rattle.quil_link.specs.Built.{gate_named, qubit_number, is_number, is_number_if_any, is_built_gate, is_built, not_built};
 
 use quil_code::LoadFault;
-use quil_tree::{Gate, Item, Operand, Qubit, Statement};
+use quil_tree::{Gate, Item, Qubit, Statement};
 
 /// Qubits are numbers below this.
 pub(crate) const QUBIT_LIMIT: u32 = 65_536;
@@ -81,15 +81,6 @@ fn is_built_gate(gate: &Gate) -> bool
         && are_numbers(gate.qubits.as_slice())
 }
 
-fn is_built_operand(operand: &Operand) -> bool
-    ensures { result ≡ is_built_operand operand.now }
-{
-    match operand {
-        Operand::Reference(_) | Operand::Literal(_, _, _) => true,
-        Operand::Formula(_) => false,
-    }
-}
-
 fn is_built(statement: &Statement) -> bool
     ensures { result ≡ is_built statement.now }
 {
@@ -101,29 +92,7 @@ fn is_built(statement: &Statement) -> bool
         | Statement::Jump(_)
         | Statement::JumpWhen(_, _)
         | Statement::JumpUnless(_, _) => false,
-        Statement::Move(_, x)
-        | Statement::Add(_, x)
-        | Statement::Sub(_, x)
-        | Statement::Mul(_, x)
-        | Statement::Div(_, x)
-        | Statement::And(_, x)
-        | Statement::Ior(_, x)
-        | Statement::Xor(_, x)
-        | Statement::Store(_, _, x)
-        | Statement::Eq(_, _, x)
-        | Statement::Gt(_, _, x)
-        | Statement::Ge(_, _, x)
-        | Statement::Lt(_, _, x)
-        | Statement::Le(_, _, x) => is_built_operand(x),
-        Statement::Wait
-        | Statement::Nop
-        | Statement::Halt
-        | Statement::Pragma(_, _)
-        | Statement::Not(_)
-        | Statement::Neg(_)
-        | Statement::Exchange(_, _)
-        | Statement::Convert(_, _)
-        | Statement::Load(_, _, _) => true,
+        _ => true,
     }
 }
 

@@ -1,4 +1,5 @@
-//! The lines of a program: each statement with its names resolved and its types checked. Qubits are those of the text.
+//! The lines of a program: each statement with its names resolved, its types checked and its operand worked out. Qubits are
+//! those of the text.
 
 ghost use Rattle.std.specs.Prelude.{◌≡◌, ℕ, ◌<◌, ◌^◌, [], ◌∷◌, ◌++◌, length, Ok, Err, IfOk, IfErr, IfSome};
 ghost use Rattle.quil_code.specs.declared.load_fault.LoadFault.TheVariants.{OutOfMemory};
@@ -10,11 +11,12 @@ ghost use Rattle.quil_link.specs.Linked as linked;
 ghost use Rattle.quil_link.specs.Steps.{IsLinked, AreLinked, OrWantsMemory};
 
 use crate::gate::{Standard, gate_named, qubit_number};
-use crate::term::{cell_at, span_named, term_at};
+use crate::operand::{cell_at, operand_at, span_named};
 use crate::types::{
     cell_as, typed_bits, typed_comparison, typed_convert, typed_exchange, typed_load, typed_move,
     typed_neg, typed_not, typed_product, typed_store, typed_sum,
 };
+use crate::value_fault::valued;
 use quil_code::{
     BitOperation, Cell, Classic, Comparison, Instruction, Line, LoadFault, ProductOperation,
     SumOperation,
@@ -201,12 +203,12 @@ fn linked_move(
     target: &Reference,
     source: &Operand,
 ) -> Result<Instruction, LoadFault>
-    ensures value { Loads result (linked.on_term layout.now line types.typed_move target.now source.now) }
+    ensures value { Loads result (linked.on_operand layout.now line types.typed_move target.now source.now) }
     ensures fits { IfOk result (λ i. IsLinked i layout.now.bits) }
 {
     let target = cell_at(alloc, layout, target)?;
-    let source = term_at(alloc, layout, line, source)?;
-    typed(line, typed_move(target, source))
+    let source = operand_at(alloc, layout, source)?;
+    valued(&source, typed(line, typed_move(target, &source)))
 }
 
 fn linked_sum(
@@ -217,12 +219,12 @@ fn linked_sum(
     target: &Reference,
     source: &Operand,
 ) -> Result<Instruction, LoadFault>
-    ensures value { Loads result (linked.on_term layout.now line (types.typed_sum operation) target.now source.now) }
+    ensures value { Loads result (linked.on_operand layout.now line (types.typed_sum operation) target.now source.now) }
     ensures fits { IfOk result (λ i. IsLinked i layout.now.bits) }
 {
     let target = cell_at(alloc, layout, target)?;
-    let source = term_at(alloc, layout, line, source)?;
-    typed(line, typed_sum(operation, target, source))
+    let source = operand_at(alloc, layout, source)?;
+    valued(&source, typed(line, typed_sum(operation, target, &source)))
 }
 
 fn linked_product(
@@ -233,12 +235,15 @@ fn linked_product(
     target: &Reference,
     source: &Operand,
 ) -> Result<Instruction, LoadFault>
-    ensures value { Loads result (linked.on_term layout.now line (types.typed_product operation) target.now source.now) }
+    ensures value { Loads result (linked.on_operand layout.now line (types.typed_product operation) target.now source.now) }
     ensures fits { IfOk result (λ i. IsLinked i layout.now.bits) }
 {
     let target = cell_at(alloc, layout, target)?;
-    let source = term_at(alloc, layout, line, source)?;
-    typed(line, typed_product(operation, target, source))
+    let source = operand_at(alloc, layout, source)?;
+    valued(
+        &source,
+        typed(line, typed_product(operation, target, &source)),
+    )
 }
 
 fn linked_bits(
@@ -249,12 +254,12 @@ fn linked_bits(
     target: &Reference,
     source: &Operand,
 ) -> Result<Instruction, LoadFault>
-    ensures value { Loads result (linked.on_term layout.now line (types.typed_bits operation) target.now source.now) }
+    ensures value { Loads result (linked.on_operand layout.now line (types.typed_bits operation) target.now source.now) }
     ensures fits { IfOk result (λ i. IsLinked i layout.now.bits) }
 {
     let target = cell_at(alloc, layout, target)?;
-    let source = term_at(alloc, layout, line, source)?;
-    typed(line, typed_bits(operation, target, source))
+    let source = operand_at(alloc, layout, source)?;
+    valued(&source, typed(line, typed_bits(operation, target, &source)))
 }
 
 fn linked_load(
@@ -287,8 +292,8 @@ fn linked_store(
 {
     let span = span_named(alloc, layout, region.text.as_bytes())?;
     let index = cell_at(alloc, layout, index)?;
-    let source = term_at(alloc, layout, line, source)?;
-    typed(line, typed_store(span, index, source))
+    let source = operand_at(alloc, layout, source)?;
+    valued(&source, typed(line, typed_store(span, index, &source)))
 }
 
 fn linked_comparison(
@@ -305,8 +310,11 @@ fn linked_comparison(
 {
     let target = cell_at(alloc, layout, target)?;
     let left = cell_at(alloc, layout, left)?;
-    let right = term_at(alloc, layout, line, right)?;
-    typed(line, typed_comparison(comparison, target, left, right))
+    let right = operand_at(alloc, layout, right)?;
+    valued(
+        &right,
+        typed(line, typed_comparison(comparison, target, left, &right)),
+    )
 }
 
 // What a statement of this line becomes.

@@ -49,14 +49,15 @@ fn load_tree(alloc: Global, items: &[Item]) -> Result<Code, LoadFault>
 }
 
 /// The program of a Quil text of the part that is built: declarations, the gates X, H and CNOT, MEASURE, RESET, WAIT, NOP, HALT,
-/// pragmas, and classical instructions whose operands are addresses and whole numbers.
+/// pragmas, and classical instructions.
 ///
 /// A text is refused with the fault of the first pass that finds one, and in a pass with the first one in the order of the
 /// text: how it is read (TextTooLong, NumberTooWide, BadToken, Unexpected, LeftOut); NotBuilt; its regions (Redeclared,
 /// UnknownRegion, ShareOutside, Misaligned, MemoryTooLarge); its counts (TooManyInstructions at the 65,537th statement, Arity
 /// where a gate hasn't its number of qubits); its lines, each with its addresses from left to right (UnknownRegion, OutOfRange),
-/// then its types (TypeClash), then RepeatedQubit; more than 16 different qubits (TooManyQubits). Any text that isn't too long
-/// may be refused for want of memory.
+/// then its types (TypeClash), then RepeatedQubit, then an operand without a value, at the place of the part that has none
+/// (NotExact, ZeroDivisor, NumberTooWide); more than 16 different qubits (TooManyQubits). Any text that isn't too long may be
+/// refused for want of memory.
 pub fn load(alloc: Global, text: &[u8]) -> Result<Code, LoadFault>
     // What is given is the program of the text.
     ensures found { IfOk result (λ code. IsLoaded text.now (Ok code)) }

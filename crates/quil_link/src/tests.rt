@@ -6,7 +6,7 @@ use quil_memory::Layout;
 use std::alloc::Global;
 use std::test::*;
 
-type Said = Result<String, Fail>;
+pub(crate) type Said = Result<String, Fail>;
 
 // The qubits of a program, and its lines from this place on.
 fn code_text(alloc: Global, code: &Code, from: usize) -> Said {
@@ -17,7 +17,7 @@ fn code_text(alloc: Global, code: &Code, from: usize) -> Said {
     Ok(said)
 }
 
-fn refusal_text(alloc: Global, fault: &LoadFault) -> Said {
+pub(crate) fn refusal_text(alloc: Global, fault: &LoadFault) -> Said {
     let mut said = Vec::new(alloc);
     fault.diagnostic().push_text(alloc, &mut said)?;
     let said = str::from_utf8(&said).unwrap_or("?");
@@ -25,7 +25,7 @@ fn refusal_text(alloc: Global, fault: &LoadFault) -> Said {
 }
 
 // The program of a text without its first lines, or the text of the refusal.
-fn told(alloc: Global, text: &str, from: usize) -> Said {
+pub(crate) fn told(alloc: Global, text: &str, from: usize) -> Said {
     match load(alloc, text.as_bytes()) {
         Ok(code) => code_text(alloc, &code, from),
         Err(fault) => refusal_text(alloc, &fault),
@@ -148,7 +148,17 @@ DECLARE a BIT⏎DECLARE a BIT⏎LABEL @a => 57 NotBuilt line=3
 LABEL @a⏎DECLARE a BIT⏎DECLARE a BIT => 57 NotBuilt line=1
 X⏎LABEL @a => 57 NotBuilt line=2
 RESET 0⏎⏎LABEL @a => 57 NotBuilt line=3
-DECLARE a BIT⏎MOVE a 2⏎MOVE a pi => 57 NotBuilt line=3
+DECLARE a BIT⏎MOVE a 2⏎LABEL @a => 57 NotBuilt line=3
+LABEL @a⏎MOVE a 18446744073709551616 => 4 NumberTooWide column=8 line=2
+LABEL @a⏎MOVE a 18446744073709551616+1 => 57 NotBuilt line=1
+DECLARE n INTEGER⏎MOVE n 1/0⏎MOVE c 1 => 3 ZeroDivisor column=8 line=2
+DECLARE n INTEGER⏎MOVE c 1⏎MOVE n 1/0 => 10 UnknownRegion word=c
+DECLARE n INTEGER⏎MOVE n 1/0⏎CNOT 3 3 => 3 ZeroDivisor column=8 line=2
+DECLARE n INTEGER⏎CNOT 3 3⏎MOVE n 1/0 => 19 RepeatedQubit line=2
+DECLARE n INTEGER⏎MOVE n sin(1)⏎MOVE n 2^63 => 2 NotExact column=8 line=2
+DECLARE n INTEGER⏎MOVE n 2^63⏎MOVE n sin(1) => 4 NumberTooWide column=8 line=2
+DECLARE n INTEGER⏎NOP; MOVE n 1/0 => 3 ZeroDivisor column=13 line=2
+MOVE n 1/0⏎X⏎DECLARE n INTEGER => 18 Arity line=2
 X⏎DECLARE a BIT⏎DECLARE a BIT => 9 Redeclared word=a
 DECLARE a BIT⏎DECLARE a BIT⏎X => 9 Redeclared word=a
 DECLARE b BIT SHARING a⏎DECLARE c BIT⏎DECLARE c BIT => 10 UnknownRegion word=a
@@ -176,13 +186,14 @@ DECLARE a BIT⏎DECLARE d INTEGER[1024]⏎DECLARE a BIT => 13 MemoryTooLarge bit
 X 0;X 1;X 2;X 3;X 4;X 5;X 6;X 7;X 8;X 9;X 10;X 11;X 12;X 13;X 14;X 15;X 16⏎MOVE c 1 => 10 UnknownRegion word=c
 X 0;X 1;X 2;X 3;X 4;X 5;X 6;X 7;X 8;X 9;X 10;X 11;X 12;X 13;X 14;X 15;X 16⏎DECLARE b BIT⏎MOVE b[1] 1 => 14 OutOfRange index=1 length=1 word=b
 X 0;X 1;X 2;X 3;X 4;X 5;X 6;X 7;X 8;X 9;X 10;X 11;X 12;X 13;X 14;X 15;X 16⏎DECLARE b BIT⏎MOVE b 2 => 26 TypeClash line=3
+X 0;X 1;X 2;X 3;X 4;X 5;X 6;X 7;X 8;X 9;X 10;X 11;X 12;X 13;X 14;X 15;X 16⏎DECLARE n INTEGER⏎MOVE n 1/0 => 3 ZeroDivisor column=8 line=3
 ";
     assert_eq!(rt; misses(rt.alloc(), "", 0, table)?.as_str(), "");
     Ok(())
 }
 
 // The bits of `b` begin at 0, those of `o` at 2, of `n` at 18, of `r` at 146.
-const REGIONS: &str =
+pub(crate) const REGIONS: &str =
     "DECLARE b BIT[2];DECLARE o OCTET[2];DECLARE n INTEGER[2];DECLARE r REAL[2]\n";
 
 #[test]
@@ -265,6 +276,30 @@ STORE b o e => 10 UnknownRegion word=e
 EQ c d e => 10 UnknownRegion word=c
 EQ o d e => 10 UnknownRegion word=d
 EQ o r n[3] => 14 OutOfRange index=3 length=2 word=n
+MOVE b (1) => [] 2 Classic(Move { kind: Bit, target: Cell { first: 0 }, source: Literal(1) });
+ADD n (2+3)*4 => [] 2 Classic(Sum { operation: Add, kind: Integer, target: Cell { first: 18 }, source: Literal(20) });
+SUB r pi => [] 2 Classic(Sum { operation: Sub, kind: Real, target: Cell { first: 146 }, source: Literal(4) });
+MUL n 2^5 => [] 2 Classic(Product { operation: Mul, target: Cell { first: 18 }, source: Literal(32) });
+DIV n -2^2 => [] 2 Classic(Product { operation: Div, target: Cell { first: 18 }, source: Literal(-4) });
+AND o 2^8-1 => [] 2 Classic(Bits { operation: And, kind: Octet, target: Cell { first: 2 }, source: Literal(255) });
+XOR b 1-1 => [] 2 Classic(Bits { operation: Xor, kind: Bit, target: Cell { first: 0 }, source: Literal(0) });
+STORE r n pi => [] 2 Classic(Store { kind: Real, span: Span { region: 3, first: 146, length: 2 }, index: Cell { first: 18 }, source: Literal(4) });
+EQ b n i^2 => [] 2 Classic(Compare { comparison: Eq, kind: Integer, target: Cell { first: 0 }, left: Cell { first: 18 }, right: Literal(-1) });
+GT b r -pi/4 => [] 2 Classic(Compare { comparison: Gt, kind: Real, target: Cell { first: 0 }, left: Cell { first: 146 }, right: Literal(-1) });
+STORE o n 2^8 => 26 TypeClash line=2
+LE b r (1) => 26 TypeClash line=2
+LE b r 1.5 => 26 TypeClash line=2
+MUL n pi => 26 TypeClash line=2
+ADD b 1/0 => 26 TypeClash line=2
+MUL r 1/0 => 26 TypeClash line=2
+STORE o o 1/0 => 26 TypeClash line=2
+GT o n 1/0 => 26 TypeClash line=2
+ADD r 1/0 => 3 ZeroDivisor column=7 line=2
+GE b n 1/0 => 3 ZeroDivisor column=8 line=2
+STORE n n[1] sin(1) => 2 NotExact column=14 line=2
+ADD c 1/0 => 10 UnknownRegion word=c
+MOVE b[2] 1/0 => 14 OutOfRange index=2 length=2 word=b
+STORE c n 1/0 => 10 UnknownRegion word=c
 CNOT 1 1 => 19 RepeatedQubit line=2
 X => 18 Arity line=2
 H 0 0 => 18 Arity line=2
@@ -282,10 +317,6 @@ FORKED X 0 1 => 57 NotBuilt line=2
 CONTROLLED X 0 1 => 57 NotBuilt line=2
 x 0 => 57 NotBuilt line=2
 CZ 0 1 => 57 NotBuilt line=2
-MOVE b (1) => 57 NotBuilt line=2
-SUB r pi => 57 NotBuilt line=2
-STORE r n pi => 57 NotBuilt line=2
-LE b r 1.5 => 57 NotBuilt line=2
 NOP⏎DEFGATE A:⏎ 1, 0⏎ 0, 1 => 57 NotBuilt line=3
 NOP⏎DEFCIRCUIT A q:⏎ X q => 57 NotBuilt line=3
 ";

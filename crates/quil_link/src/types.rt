@@ -1,17 +1,19 @@
 //! The types of classical instructions: which operands an instruction takes, and what it is then.
 
 ghost use Rattle.std.specs.Prelude.{◌≡◌, ℕ, IfSome};
+ghost use Rattle.quil_memory.specs.CellTypes.{InType};
 ghost use Rattle.quil_code.specs.Program.{SourceFits, ClassicFits};
 ghost use Rattle.quil_link.specs.Types as types;
 ghost use Rattle.quil_link.specs.Types.{is_type, as_arithmetic, as_bitwise, literal_as};
-ghost use Rattle.quil_link.specs.Steps.{CellWithin, SpanWithin, TermWithin};
+ghost use Rattle.quil_link.specs.Steps.{CellWithin, SpanWithin, OperandWithin};
 
-use crate::term::{Term, TypedCell, TypedSpan};
+use crate::operand::{SecondOperand, TypedCell, TypedSpan};
 use quil_code::{
     Arithmetic, BitOperation, Bitwise, Cell, Classic, Comparison, ProductOperation, Source,
     SumOperation,
 };
 use quil_memory::CellType;
+use quil_value::{Stop, Value};
 
 fn is_type(kind: CellType, other: CellType) -> bool
     ensures { result ≡ is_type kind other }
@@ -69,20 +71,42 @@ fn literal_as(kind: CellType, number: i128) -> Option<i64>
     }
 }
 
-// The operand, if it has this type.
-fn source_as(kind: CellType, term: Term) -> Option<Source>
-    ensures value { result ≡ types.source_as kind term }
-    ensures fits { (bits : ℕ) → TermWithin term bits → IfSome result (λ s. SourceFits kind s bits) }
+// The value of an expression, if it is in this type.
+fn value_as(kind: CellType, value: &Value) -> Option<i64>
+    ensures { result ≡ types.value_as kind value.now }
 {
-    match term {
-        Term::Cell(cell) => Some(Source::FromCell(cell_as(kind, cell)?)),
-        Term::Number(number) => Some(Source::Literal(literal_as(kind, number)?)),
+    match kind {
+        CellType::Real => value.eighths(),
+        CellType::Bit | CellType::Octet | CellType::Integer => literal_as(kind, value.whole()?),
     }
 }
 
-pub(crate) fn typed_move(target: TypedCell, source: Term) -> Option<Classic>
-    ensures value { result ≡ types.typed_move target source }
-    ensures fits { (bits : ℕ) → CellWithin target bits → TermWithin source bits → IfSome result (λ c. ClassicFits c bits) }
+// The value of an expression, if it is in this type. One without a value is refused behind the types: until then 0 stands for it.
+fn formula_as(kind: CellType, value: &Result<Value, Stop>) -> Option<i64>
+    ensures value { result ≡ types.formula_as kind value.now }
+    ensures fits { IfSome result (λ z. InType kind z) }
+{
+    match value {
+        Ok(value) => value_as(kind, value),
+        Err(_) => Some(0),
+    }
+}
+
+// The operand, if it has this type.
+fn source_as(kind: CellType, operand: &SecondOperand) -> Option<Source>
+    ensures value { result ≡ types.source_as kind operand.now }
+    ensures fits { (bits : ℕ) → OperandWithin operand.now bits → IfSome result (λ s. SourceFits kind s bits) }
+{
+    match operand {
+        SecondOperand::Cell(cell) => Some(Source::FromCell(cell_as(kind, *cell)?)),
+        SecondOperand::Number(number) => Some(Source::Literal(literal_as(kind, *number)?)),
+        SecondOperand::Formula(_, value) => Some(Source::Literal(formula_as(kind, value)?)),
+    }
+}
+
+pub(crate) fn typed_move(target: TypedCell, source: &SecondOperand) -> Option<Classic>
+    ensures value { result ≡ types.typed_move target source.now }
+    ensures fits { (bits : ℕ) → CellWithin target bits → OperandWithin source.now bits → IfSome result (λ c. ClassicFits c bits) }
 {
     let kind = target.kind;
     let source = source_as(kind, source)?;
@@ -106,9 +130,13 @@ pub(crate) fn typed_exchange(one: TypedCell, other: TypedCell) -> Option<Classic
     })
 }
 
-pub(crate) fn typed_sum(operation: SumOperation, target: TypedCell, source: Term) -> Option<Classic>
-    ensures value { result ≡ types.typed_sum operation target source }
-    ensures fits { (bits : ℕ) → CellWithin target bits → TermWithin source bits → IfSome result (λ c. ClassicFits c bits) }
+pub(crate) fn typed_sum(
+    operation: SumOperation,
+    target: TypedCell,
+    source: &SecondOperand,
+) -> Option<Classic>
+    ensures value { result ≡ types.typed_sum operation target source.now }
+    ensures fits { (bits : ℕ) → CellWithin target bits → OperandWithin source.now bits → IfSome result (λ c. ClassicFits c bits) }
 {
     let kind = as_arithmetic(target.kind)?;
     let source = source_as(target.kind, source)?;
@@ -123,10 +151,10 @@ pub(crate) fn typed_sum(operation: SumOperation, target: TypedCell, source: Term
 pub(crate) fn typed_product(
     operation: ProductOperation,
     target: TypedCell,
-    source: Term,
+    source: &SecondOperand,
 ) -> Option<Classic>
-    ensures value { result ≡ types.typed_product operation target source }
-    ensures fits { (bits : ℕ) → CellWithin target bits → TermWithin source bits → IfSome result (λ c. ClassicFits c bits) }
+    ensures value { result ≡ types.typed_product operation target source.now }
+    ensures fits { (bits : ℕ) → CellWithin target bits → OperandWithin source.now bits → IfSome result (λ c. ClassicFits c bits) }
 {
     let target = cell_as(CellType::Integer, target)?;
     let source = source_as(CellType::Integer, source)?;
@@ -162,10 +190,10 @@ pub(crate) fn typed_not(target: TypedCell) -> Option<Classic>
 pub(crate) fn typed_bits(
     operation: BitOperation,
     target: TypedCell,
-    source: Term,
+    source: &SecondOperand,
 ) -> Option<Classic>
-    ensures value { result ≡ types.typed_bits operation target source }
-    ensures fits { (bits : ℕ) → CellWithin target bits → TermWithin source bits → IfSome result (λ c. ClassicFits c bits) }
+    ensures value { result ≡ types.typed_bits operation target source.now }
+    ensures fits { (bits : ℕ) → CellWithin target bits → OperandWithin source.now bits → IfSome result (λ c. ClassicFits c bits) }
 {
     let kind = as_bitwise(target.kind)?;
     let source = source_as(target.kind, source)?;
@@ -208,9 +236,13 @@ pub(crate) fn typed_load(target: TypedCell, span: TypedSpan, index: TypedCell) -
     }
 }
 
-pub(crate) fn typed_store(span: TypedSpan, index: TypedCell, source: Term) -> Option<Classic>
-    ensures value { result ≡ types.typed_store span index source }
-    ensures fits { (bits : ℕ) → SpanWithin span bits → CellWithin index bits → TermWithin source bits → IfSome result (λ c. ClassicFits c bits) }
+pub(crate) fn typed_store(
+    span: TypedSpan,
+    index: TypedCell,
+    source: &SecondOperand,
+) -> Option<Classic>
+    ensures value { result ≡ types.typed_store span index source.now }
+    ensures fits { (bits : ℕ) → SpanWithin span bits → CellWithin index bits → OperandWithin source.now bits → IfSome result (λ c. ClassicFits c bits) }
 {
     let index = cell_as(CellType::Integer, index)?;
     let source = source_as(span.kind, source)?;
@@ -226,10 +258,10 @@ pub(crate) fn typed_comparison(
     comparison: Comparison,
     target: TypedCell,
     left: TypedCell,
-    right: Term,
+    right: &SecondOperand,
 ) -> Option<Classic>
-    ensures value { result ≡ types.typed_comparison comparison target left right }
-    ensures fits { (bits : ℕ) → CellWithin target bits → CellWithin left bits → TermWithin right bits → IfSome result (λ c. ClassicFits c bits) }
+    ensures value { result ≡ types.typed_comparison comparison target left right.now }
+    ensures fits { (bits : ℕ) → CellWithin target bits → CellWithin left bits → OperandWithin right.now bits → IfSome result (λ c. ClassicFits c bits) }
 {
     let target = cell_as(CellType::Bit, target)?;
     let right = source_as(left.kind, right)?;

@@ -55,6 +55,10 @@ DECLARE ro BIT⏎MEASURE 0 ro[1] => 1 error: 14 OutOfRange index=1 length=1 word
 X 0⏎X 0 1 => 1 error: 18 Arity line=2⏎
 CNOT 3 3 => 1 error: 19 RepeatedQubit line=1⏎
 DECLARE theta REAL⏎MOVE theta 1⏎ => 1 error: 26 TypeClash line=2⏎
+DECLARE b BIT⏎ADD b 1/0⏎ => 1 error: 26 TypeClash line=2⏎
+DECLARE x INTEGER⏎MOVE x 1/0⏎ => 1 error: 3 ZeroDivisor column=8 line=2⏎
+DECLARE x INTEGER⏎MOVE x sin(1)⏎ => 1 error: 2 NotExact column=8 line=2⏎
+DECLARE x INTEGER⏎MOVE x 2^63⏎ => 1 error: 4 NumberTooWide column=8 line=2⏎
 X 0;X 1;X 2;X 3;X 4;X 5;X 6;X 7;X 8;X 9;X 10;X 11;X 12;X 13;X 14;X 15;X 16 => 1 error: 27 TooManyQubits count=17⏎
 LABEL @a => 1 error: 57 NotBuilt line=1⏎
 ⏎ ⏎Y 0 => 1 error: 57 NotBuilt line=3⏎

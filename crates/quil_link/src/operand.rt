@@ -1,15 +1,16 @@
-//! The cells, regions and numbers that the operands of an instruction name.
+//! The cells and regions that the operands of an instruction name, and the numbers and values that they are.
 
 ghost use Rattle.std.specs.Prelude.{◌≡◌, ℕ, ◌≤◌, IfOk, IfSome};
 ghost use Rattle.quil_memory.specs.Layout.{most_bits};
 ghost use Rattle.quil_link.specs.Passes.{Loads};
-ghost use Rattle.quil_link.specs.Cells.{found_span, span_named, cell_in, cell_at, literal_value, term_at};
-ghost use Rattle.quil_link.specs.Steps.{CellWithin, SpanWithin, TermWithin};
+ghost use Rattle.quil_link.specs.Cells.{found_span, span_named, cell_in, cell_at, literal_value, formula_value, operand_at};
+ghost use Rattle.quil_link.specs.Steps.{CellWithin, SpanWithin, OperandWithin};
 
 use quil_code::{Cell, LoadFault, Span};
 use quil_memory::{CellType, Layout, Name};
-use quil_tree::{Operand, Reference, Sign};
-use std::alloc::Global;
+use quil_tree::{Formula, Operand, Place, Reference, Sign};
+use quil_value::{Stop, Value, WorkFault, eval};
+use std::alloc::{AllocError, Global};
 
 /// A cell and its type.
 #[derive(Clone, Copy, Debug, PartialEq, Eq)]
@@ -25,12 +26,14 @@ pub(crate) struct TypedSpan {
     pub(crate) span: Span,
 }
 
-/// A second operand.
+/// The second operand of an instruction: a cell, a whole number, or an expression that was worked out.
 #[derive(Clone, Copy, Debug, PartialEq, Eq)]
-pub(crate) enum Term {
+pub(crate) enum SecondOperand {
     Cell(TypedCell),
     /// A whole number, which may be outside the 64 bits of any type.
     Number(i128),
+    /// What an expression comes to, and where it begins.
+    Formula(Place, Result<Value, Stop>),
 }
 
 // The region of a name.
@@ -113,22 +116,40 @@ fn literal_value(sign: Option<Sign>, value: u64) -> i128
     }
 }
 
-/// A second operand of an instruction in this line.
-pub(crate) fn term_at(
+// What an expression without parameters comes to.
+fn formula_value(alloc: Global, formula: &Formula) -> Result<Result<Value, Stop>, AllocError>
+    ensures { IfOk result (λ r. r ≡ formula_value formula.now) }
+{
+    // These are the steps of a tree.
+    let _steps = formula.expr.steps();
+    match eval(alloc, &formula.expr, &[]) {
+        Ok(value) => Ok(Ok(value)),
+        Err(WorkFault::Stop(stop)) => Ok(Err(stop)),
+        Err(WorkFault::OutOfMemory) => Err(AllocError),
+    }
+}
+
+/// A second operand of an instruction.
+pub(crate) fn operand_at(
     alloc: Global,
     layout: &Layout,
-    line: u32,
     operand: &Operand,
-) -> Result<Term, LoadFault>
-    ensures value { Loads result (term_at layout.now line operand.now) }
-    ensures within { IfOk result (λ t. TermWithin t layout.now.bits) }
+) -> Result<SecondOperand, LoadFault>
+    ensures value { Loads result (operand_at layout.now operand.now) }
+    ensures within { IfOk result (λ t. OperandWithin t layout.now.bits) }
 {
     match operand {
         Operand::Reference(reference) => {
             let cell = cell_at(alloc, layout, reference)?;
-            Ok(Term::Cell(cell))
+            Ok(SecondOperand::Cell(cell))
         }
-        Operand::Literal(_, sign, number) => Ok(Term::Number(literal_value(*sign, number.value))),
-        Operand::Formula(_) => Err(LoadFault::NotBuilt { line }),
+        Operand::Literal(_, sign, number) => Ok(SecondOperand::Number(literal_value(
+            *sign,
+            number.value,
+        ))),
+        Operand::Formula(formula) => {
+            let value = formula_value(alloc, formula)?;
+            Ok(SecondOperand::Formula(formula.place, value))
+        }
     }
 }

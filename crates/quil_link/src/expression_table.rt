@@ -1,5 +1,9 @@
-# Expressions and what they come to, worked out apart from the code: a value as `ring a b c d / m` (a + bω + cω² + dω³ over √2^m),
-# `rational`, `pi` or `ipi` with p/q, a fault at a column or at the whole parameter, or a sum of the cells of t and u.
+//! Expressions and what they come to: a value as `ring a b c d / m` (a + bω + cω² + dω³ over √2^m), `rational`, `pi` or `ipi`
+//! with p/q, a fault at a column or at the whole parameter, or a sum of the cells of `t` and `u` behind its factor of π.
+//!
+//! The rows were worked out by an exact computation apart from the code, some seventy of them by hand too.
+
+pub(crate) const ROWS: &str = "
 # whole numbers and decimals
 0 | ring 0 0 0 0 / 0
 4611686018427387904 | ring 4611686018427387904 0 0 0 / 0
@@ -30,6 +34,7 @@
 21684043449710088680149056017398834228515625e-62i | ring 0 0 1 0 / 124
 21684043449710088680149056017398834228515625e-63i | NotExact at 1
 108420217248550443400745280086994171142578125e-63i | NumberTooWide at 1
+# (the next one is i/(5*2^64), which has none of the four kinds: by this repository's own rule its last digits decide)
 108420217248550443400745280086994171142578125e-64i | NumberTooWide at 1
 1e-99999999999i | NotExact at 1
 
@@ -481,3 +486,44 @@ t+pi/8388608 | NumberTooWide whole
 t+pi*536870912 | sum 536870912/1; t[0] 1/1
 t+pi*536870913 | NumberTooWide whole
 t/3+pi*536870912 | NumberTooWide whole
+
+# no sum of two kinds, unless one of them is 0
+3+(i*pi/2) | NotExact at 1
+sqrt(2)+(i*pi/2) | NotExact at 1
+(1/3)+pi | NotExact at 1
+(1/3)+(i*pi/2) | NotExact at 1
+(pi/3)+2 | NotExact at 1
+(pi/3)+(1+i) | NotExact at 1
+(i*pi)+2 | NotExact at 1
+(i*pi)+(2/3) | NotExact at 1
+3 - pi | NotExact at 1
+3 - (i*pi/2) | NotExact at 1
+sqrt(2) - pi | NotExact at 1
+sqrt(2) - (i*pi/2) | NotExact at 1
+(1/3) - pi | NotExact at 1
+(1/3) - (i*pi/2) | NotExact at 1
+(pi/3) - 2 | NotExact at 1
+(pi/3) - (1+i) | NotExact at 1
+(pi/3) - (2/3) | NotExact at 1
+(i*pi) - 2 | NotExact at 1
+(i*pi) - (1+i) | NotExact at 1
+(i*pi) - (2/3) | NotExact at 1
+
+# no power by what is no whole number
+sqrt(2)^(1+i) | NotExact at 1
+sqrt(2)^(2/3) | NotExact at 1
+sqrt(2)^pi | NotExact at 1
+sqrt(2)^(i*pi/2) | NotExact at 1
+(1/3)^(1+i) | NotExact at 1
+(1/3)^(2/3) | NotExact at 1
+(1/3)^pi | NotExact at 1
+(1/3)^(i*pi/2) | NotExact at 1
+(pi/3)^(1+i) | NotExact at 1
+(pi/3)^(2/3) | NotExact at 1
+(pi/3)^(i*pi/2) | NotExact at 1
+(i*pi)^(1+i) | NotExact at 1
+(i*pi)^(2/3) | NotExact at 1
+(i*pi)^pi | NotExact at 1
+0^(1+i) | NotExact at 1
+0^(i*pi/2) | NotExact at 1
+";
