@@ -3,3 +3,9 @@ pub mod Classic
 pub mod Program
 pub mod Step
 pub mod Faults
+pub mod StandardGates
+pub mod Entries
+pub mod Controls
+pub mod Matrices
+pub mod Squares
+pub mod Acts

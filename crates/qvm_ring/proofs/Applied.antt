@@ -1,5 +1,5 @@
 -- A standard gate on a vector: from the sums of its table to the gate applied.
-use Rattle.std.proofs.Common.{◌≡◌, ◌≢◌, refl, sym, ◌∙◌, ap, subst, ℕ, ◌*◌, ◌^◌, ◌<◌, ◌≤◌, true, false, List, [], length, All, AllPairs, arith, rules}
+use Rattle.std.proofs.Common.{◌≡◌, ◌≢◌, refl, sym, ◌∙◌, ap, subst, ℕ, ◌*◌, ◌^◌, ◌<◌, ◌≤◌, true, false, List, [], length, All, AllPairs, arith}
 use Rattle.std.specs.Prelude.{nat_lt, nat_abs}
 use Rattle.std.proofs.Math.Nat.{mul-le-mul}
 use Rattle.std.proofs.lemmas.Bool.{ltb-true, ltb-false}
@@ -8,11 +8,9 @@ use Rattle.qvm_ring.specs.declared.amp.Amp.{Amp}
 use Rattle.qvm_ring.specs.declared.wide.Wide.{Wide}
 use Rattle.qvm_ring.specs.declared.table.Table.{Table}
 use Rattle.qvm_ring.specs.declared.table.StandardGate.{StandardGate}
-use Rattle.qvm_ring.specs.declared.table.StandardGate.TheVariants as standard
 use Rattle.qvm_ring.specs.Ring.{Element, norm_whole}
 use Rattle.qvm_ring.specs.Ray.{Ray, ray_of, reduced, weight, weight_limit}
-use Rattle.qvm_ring.specs.Gate.{Gate, product_at, applied, x_gate, h_gate, cnot_gate}
-use Rattle.qvm_ring.specs.Isometry.{IsIsometry}
+use Rattle.qvm_ring.specs.Gate.{Gate, product_at, applied}
 use Rattle.qvm_ring.specs.Views.{element_of, elements_of, wide_elements_of, at, map_of, IsBelow}
 use Rattle.qvm_ring.specs.Vector.{IsVector}
 use Rattle.qvm_ring.specs.Table.{table_gate, IsTableOf, standard_gate}
@@ -20,21 +18,8 @@ use Rattle.qvm_ring.proofs.Vectors.{weight_room}
 use Rattle.qvm_ring.proofs.Reductions.{reduced_some}
 use Rattle.qvm_ring.proofs.States.{IsVector-made}
 use Rattle.qvm_ring.proofs.Products.{at_elements, ray_of_table}
-use Rattle.qvm_ring.proofs.Isometries.{product_some}
-
-x_isometry : IsIsometry x_gate
-x_isometry = search rules
-
-h_isometry : IsIsometry h_gate
-h_isometry = search rules
-
-cnot_isometry : IsIsometry cnot_gate
-cnot_isometry = search rules
-
-isometry_of : (gate : StandardGate) → IsIsometry (standard_gate gate)
-isometry_of standard.X = x_isometry
-isometry_of standard.H = h_isometry
-isometry_of standard.Cnot = cnot_isometry
+use Rattle.qvm_ring.proofs.KeptRays.{product_some}
+use Rattle.qvm_ring.proofs.UnitaryGates.{unitary_gate}
 
 -- ---- the amplitudes of a light vector are below 2^48
 
@@ -66,7 +51,7 @@ module _ (gate : StandardGate) (t : Table) (n : ℕ) (qs : List ℕ) (zs : List 
   sums_are = sums ∙ ray_of_table (2 ^ n) (standard_gate gate) t qs (map_of zs) table arity
 
   pub sums_some : IsVector n zs → All (λ q. q < n) qs → AllPairs (λ p q. p ≢ q) qs → map_of (wide_elements_of ws) ≢ []
-  sums_some v below different e = product_some n (standard_gate gate) qs (map_of zs) (isometry_of gate) (sym arity) different below v.state.map v.state.some (sym sums_are ∙ e)
+  sums_some v below different e = product_some n (standard_gate gate) qs (map_of zs) (unitary_gate gate) (sym arity) different below v.state.map v.state.some (sym sums_are ∙ e)
 
 pub reduced_product : (n : ℕ) (g : Gate) (qs : List ℕ) (ray sums : Ray) → sums ≡ ray_of (2 ^ n) (product_at g qs ray) → reduced sums ≡ applied n g qs ray
 unfolding applied

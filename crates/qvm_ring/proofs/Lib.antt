@@ -19,10 +19,11 @@ pub mod Settling
 pub mod Associative
 pub mod Summed
 pub mod LocalStates
-pub mod Isometries
+pub mod KeptRays
 pub mod LocalLoops
 pub mod ProductBounds
 pub mod Products
+pub mod UnitaryGates
 pub mod Applied
 pub mod Descent
 pub mod Roots

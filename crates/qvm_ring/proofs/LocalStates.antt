@@ -16,26 +16,26 @@ IsOther q qs = All (λ p. q ≢ p) qs
 abbrev pub AreDifferent : List ℕ → Type 0
 AreDifferent qs = AllPairs (λ p q. p ≢ q) qs
 
-other_head : (q p : ℕ) (qs : List ℕ) → IsOther q (p ∷ qs) → q ≢ p
+pub other_head : (q p : ℕ) (qs : List ℕ) → IsOther q (p ∷ qs) → q ≢ p
 other_head q p qs h = h 0 p (omega arith)
 
-other_tail : (q p : ℕ) (qs : List ℕ) → IsOther q (p ∷ qs) → IsOther q qs
+pub other_tail : (q p : ℕ) (qs : List ℕ) → IsOther q (p ∷ qs) → IsOther q qs
 other_tail q p qs h = λ k d l. h (suc k) d (omega arith)
 
-different_head : (q : ℕ) (qs : List ℕ) → AreDifferent (q ∷ qs) → IsOther q qs
+pub different_head : (q : ℕ) (qs : List ℕ) → AreDifferent (q ∷ qs) → IsOther q qs
 different_head q qs h = λ k d l. h 0 (suc k) d (omega arith) (omega arith)
 
-different_tail : (q : ℕ) (qs : List ℕ) → AreDifferent (q ∷ qs) → AreDifferent qs
+pub different_tail : (q : ℕ) (qs : List ℕ) → AreDifferent (q ∷ qs) → AreDifferent qs
 different_tail q qs h = λ i j d k l. h (suc i) (suc j) d (omega arith) (omega arith)
 
 -- ---- bits of the gate's own number
 
-two_values : (n : ℕ) → n < 2 → (n ≡ 0) ⊎ (n ≡ 1)
+pub two_values : (n : ℕ) → n < 2 → (n ≡ 0) ⊎ (n ≡ 1)
 two_values zero h = inl refl
 two_values (suc zero) h = inr refl
 two_values (suc (suc n)) h = absurd (omega arith)
 
-doubled : (n : ℕ) → 2 ^ suc n ≡ 2 ^ n + 2 ^ n
+pub doubled : (n : ℕ) → 2 ^ suc n ≡ 2 ^ n + 2 ^ n
 doubled n = omega arith
 
 sum_below : (b p r : ℕ) → b < 2 → r < p → b * p + r < p + p
@@ -50,7 +50,7 @@ local_below (q ∷ qs) x =
     let h = sum_below (bit_of x q) (2 ^ length qs) (local_state qs x) (bit_of_below x q) (local_below qs x) in
     subst (λ (m : ℕ). local_state (q ∷ qs) x < m) (sym (doubled (length qs))) h
 
-top_bit : (b n r : ℕ) → b < 2 → r < 2 ^ n → bit_of (b * 2 ^ n + r) n ≡ b
+pub top_bit : (b n r : ℕ) → b < 2 → r < 2 ^ n → bit_of (b * 2 ^ n + r) n ≡ b
 top_bit b n r h l = ap (λ (k : ℕ). k % 2) (div-mul-add b (2 ^ n) r l) ∙ (let e : b % 2 ≡ b = omega arith in e)
 
 even_added : (n m : ℕ) → (n + m * 2) % 2 ≡ n % 2
@@ -63,7 +63,7 @@ regroup : (k m p : ℕ) → k + m * (p + p) ≡ k + m * 2 * p
 regroup k m p = omega arith
 
 -- the gate's own number counts by its lower bits only
-with_local_more : (qs : List ℕ) (k m x : ℕ) → with_local qs (k + m * 2 ^ length qs) x ≡ with_local qs k x
+pub with_local_more : (qs : List ℕ) (k m x : ℕ) → with_local qs (k + m * 2 ^ length qs) x ≡ with_local qs k x
 with_local_more [] k m x = refl
 with_local_more (q ∷ qs) k m x =
     let e : k + m * 2 ^ suc (length qs) ≡ k + m * 2 * 2 ^ length qs = ap (λ (p : ℕ). k + m * p) (doubled (length qs)) ∙ regroup k m (2 ^ length qs) in

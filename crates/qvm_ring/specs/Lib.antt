@@ -1,7 +1,6 @@
 pub mod Ring
 pub mod Ray
 pub mod Gate
-pub mod Isometry
 pub mod Measure
 pub mod Examples
 pub mod Views

@@ -3,7 +3,7 @@
 ghost use Rattle.std.specs.Prelude.{◌≡◌, ◌≢◌, ◌+◌, ◌*◌, ◌^◌, ◌<◌, ◌≤◌, ℕ, true, false, ℤ, pos, neg_ℤ, ◌+ℤ◌, ◌*ℤ◌, [], ◌∷◌};
 ghost use Rattle.qvm_ring.specs.Ring.{Element, unit, times, conjugate, root_two, norm_whole, norm_root, is_positive, is_divisible, quotient};
 ghost use Rattle.qvm_ring.specs.Ray.{Ray, IsFiniteMap, weight, all_divisible, all_divided, reduced};
-ghost use Rattle.qvm_ring.specs.Gate.{IsUnitary, applied, x_gate, h_gate, cnot_gate};
+ghost use Rattle.qvm_ring.specs.Gate.{applied, x_gate};
 
 /// The norm u + v√2 of an amplitude is the amplitude times its complex conjugate, where √2 is ω - ω³.
 #[tactic(auto, using(crate::proofs::RingLemmas::times_conjugate))]
@@ -37,11 +37,4 @@ pub fn x_never_passes_the_limit()
 pub fn sign_of_norms()
     ensures root_two { (u v : ℤ) → is_positive (pos 2 *ℤ v) u ≡ is_positive u v }
     ensures sum { (u v s t : ℤ) → is_positive u v ≡ true → is_positive s t ≡ true → is_positive (u +ℤ s) (v +ℤ t) ≡ true }
-{}
-
-/// The gates X, H and CNOT are unitary.
-pub fn gates_are_unitary()
-    ensures x { IsUnitary x_gate }
-    ensures h { IsUnitary h_gate }
-    ensures cnot { IsUnitary cnot_gate }
 {}

@@ -26,10 +26,10 @@ pub use amp::Amp;
 pub use comparison::greater;
 pub use examples::{gates_by_hand, measurements_by_hand, rays_by_hand};
 pub use fault::ApplyFault;
-pub use gate_laws::{gates_are_isometries, isometries_keep_some};
+pub use gate_laws::{gates_are_unitary, unitary_gates_keep_some};
 pub use laws::{
-    gates_are_unitary, norm_is_product_with_conjugate, quotient_times_root_two, reduced_rays,
-    sign_of_norms, x_never_passes_the_limit,
+    norm_is_product_with_conjugate, quotient_times_root_two, reduced_rays, sign_of_norms,
+    x_never_passes_the_limit,
 };
 pub use measure_laws::{norms_are_positive, outcomes_keep_some};
 pub use multiply::mul;

@@ -1,4 +1,4 @@
--- An isometry loses nothing: the conjugate transpose gives back 2^m times the amplitudes, so a map that isn't empty stays so.
+-- A unitary gate loses nothing: the conjugate transpose gives back 2^m times the amplitudes, so a map that isn't empty stays so.
 use Rattle.std.proofs.Common.{◌≡◌, ◌≢◌, refl, sym, ◌∙◌, ap, ℕ, zero, suc, ◌^◌, ◌<◌, ◌==◌, Bool, true, false, List, [], ◌∷◌, length, All, arith}
 use Rattle.std.specs.Prelude.{if◌then◌else◌, ℤ, pos, negsuc, ◌*ℤ◌}
 use Rattle.std.proofs.lemmas.Bool.Decides.{nat_tests}
@@ -6,8 +6,7 @@ use Rattle.std.proofs.lemmas.Int.{ints}
 use borrow.Author.Differences.{same_in}
 use Rattle.qvm_ring.specs.Ring.{Element, nought, whole_number, times, conjugate}
 use Rattle.qvm_ring.specs.Ray.{Ray, amplitude_at, ray_of, IsFiniteMap}
-use Rattle.qvm_ring.specs.Gate.{Gate, local_state, with_local, summed, product_at}
-use Rattle.qvm_ring.specs.Isometry.{IsIsometry}
+use Rattle.qvm_ring.specs.Gate.{Gate, local_state, with_local, summed, product_at, IsUnitary}
 use Rattle.qvm_ring.proofs.RingLemmas.{same_element}
 use Rattle.qvm_ring.proofs.Elements.{times_nought}
 use Rattle.qvm_ring.proofs.Bits.{power_positive}
@@ -37,7 +36,7 @@ is_same m = grind (arith, nat_tests)
 abbrev wanted : Gate → ℕ → ℕ → Element
 wanted g row column = if row == column then whole_number (2 ^ g.root_twos) else nought
 
-module _ (g : Gate) (u : IsIsometry g) (qs : List ℕ) (ray : Ray) (x : ℕ) (size : 2 ^ g.arity ≡ 2 ^ length qs) (different : AreDifferent qs) where
+module _ (g : Gate) (u : IsUnitary g) (qs : List ℕ) (ray : Ray) (x : ℕ) (size : 2 ^ g.arity ≡ 2 ^ length qs) (different : AreDifferent qs) where
   below : (k : ℕ) → k < 2 ^ length qs → k < 2 ^ g.arity
   below k l = omega (arith, size, l)
 
@@ -57,7 +56,7 @@ module _ (g : Gate) (u : IsIsometry g) (qs : List ℕ) (ray : Ray) (x : ℕ) (si
       let two : (k : ℕ) → k < n → summed n (λ r. times (times (c r) (g.entry r k)) (amp k)) ≡ times (wanted g j k) (amp k) = λ k l.
       sym (summed_times n (amp k) (λ r. times (c r) (g.entry r k)))
       ∙ ap (λ (m : ℕ). times (summed m (λ r. times (c r) (g.entry r k))) (amp k)) (sym size)
-      ∙ ap (λ (t : Element). times t (amp k)) (u j k (below j (local_below qs x)) (below k l)) in
+      ∙ ap (λ (t : Element). times t (amp k)) (u.columns j k (below j (local_below qs x)) (below k l)) in
       sum_same n (λ r. times (c r) (product_at g qs ray (with_local qs r x))) (λ r. summed n (λ k. times (times (c r) (g.entry r k)) (amp k))) one
       ∙ summed_swap n n (λ r k. times (times (c r) (g.entry r k)) (amp k))
       ∙ sum_same n (λ k. summed n (λ r. times (times (c r) (g.entry r k)) (amp k))) (λ k. times (wanted g j k) (amp k)) two
@@ -84,7 +83,7 @@ nought_of_multiple (suc n) z h e =
     same_element z nought (positive_times n z.a (ap (λ (y : Element). y.a) f)) (positive_times n z.b (ap (λ (y : Element). y.b) f))
     (positive_times n z.c (ap (λ (y : Element). y.c) f)) (positive_times n z.d (ap (λ (y : Element). y.d) f))
 
-pub product_some : (n : ℕ) (g : Gate) (qs : List ℕ) (ray : Ray) → IsIsometry g → g.arity ≡ length qs → AreDifferent qs → All (λ q. q < n) qs →
+pub product_some : (n : ℕ) (g : Gate) (qs : List ℕ) (ray : Ray) → IsUnitary g → g.arity ≡ length qs → AreDifferent qs → All (λ q. q < n) qs →
     IsFiniteMap 0 (2 ^ n) ray → ray ≢ [] → ray_of (2 ^ n) (product_at g qs ray) ≢ []
 product_some n g qs [] u a d b m s h = s refl
 product_some n g qs (e ∷ es) u a d b m s h =

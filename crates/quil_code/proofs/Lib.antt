@@ -1,0 +1,12 @@
+pub mod Computed
+pub mod Unitary
+pub mod Small
+pub mod Modifications
+pub mod SplitSums
+pub mod Collapse
+pub mod Blocks
+pub mod KeptUnitary
+pub mod Matrices
+pub mod Squares
+pub mod Acts
+pub mod UnitaryActs
