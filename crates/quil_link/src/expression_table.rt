@@ -487,6 +487,16 @@ t+pi*536870912 | sum 536870912/1; t[0] 1/1
 t+pi*536870913 | NumberTooWide whole
 t/3+pi*536870912 | NumberTooWide whole
 
+# bounds: further ends
+-2^62*i | ring 0 0 -4611686018427387904 0 / 0
+-2^62*i - i | NumberTooWide at 1
+2^62*cis(pi/4) | ring 0 4611686018427387904 0 0 / 0
+-(2^62)/3 | rational -4611686018427387904/3
+-pi*2^62 | pi -4611686018427387904/1
+-pi*2^62 - pi | NumberTooWide at 1
+-i*pi*2^62 | ipi -4611686018427387904/1
+-i*pi*2^62 - i*pi | NumberTooWide at 1
+
 # no sum of two kinds, unless one of them is 0
 3+(i*pi/2) | NotExact at 1
 sqrt(2)+(i*pi/2) | NotExact at 1
