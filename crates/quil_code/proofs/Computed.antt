@@ -1,17 +1,14 @@
 -- Tests that are computed: equal elements, a unitary gate, small entries; and what they say.
-use Rattle.std.proofs.Common.{◌≡◌, ap, ◌∙◌, ℕ, zero, suc, ◌<◌, ◌⊎◌, inl, inr, ◌^◌, Bool, true, false, arith}
-use Rattle.std.specs.Prelude.{ℤ, pos, negsuc, nat_abs, nat_lt, ◌&&◌, ◌==◌}
-use Rattle.std.proofs.lemmas.Bool.{eqb-true, ltb-true}
+use Rattle.std.proofs.Common.{◌≡◌, refl, sym, ap, ◌∙◌, ℕ, zero, suc, ◌<◌, ◌⊎◌, inl, inr, ◌^◌, Bool, true, arith}
+use Rattle.std.specs.Prelude.{ℤ, pos, negsuc, nat_abs, nat_lt, ◌&&◌}
+use Rattle.std.proofs.lemmas.Bool.{eqb-true, eq-eqb, ltb-true}
 use Rattle.qvm_ring.specs.Ring.{Element}
 use Rattle.qvm_ring.specs.Gate.{Gate, gram_entry, cogram_entry, identity_entry, IsUnitary}
 use Rattle.qvm_ring.specs.Multiply.{IsWithin}
+use Rattle.quil_code.specs.Unitary.{each_below, same_whole, same, has_products, is_unitary}
 use Rattle.qvm_ring.proofs.RingLemmas.{same_element, and_left, and_right}
 
 -- ---- tests at each number below n
-
-abbrev pub each_below : ℕ → (ℕ → Bool) → Bool
-each_below zero test = true
-each_below (suc n) test = each_below n test && test n
 
 at_or_below : (i n : ℕ) → i < suc n → (i ≡ n) ⊎ (i < n)
 at_or_below i n h = grind arith
@@ -23,19 +20,17 @@ below (suc n) test e k h = elim (at_or_below k n h) [
   | inr l ↦ below n test (and_left (each_below n test) (test n) e) k l
 ]
 
+both_true : (s t : Bool) → s ≡ true → t ≡ true → (s && t) ≡ true
+both_true s t e h = ap (λ (b : Bool). b && t) e ∙ h
+
+pub all_below : (n : ℕ) (test : ℕ → Bool) → ((k : ℕ) → k < n → test k ≡ true) → each_below n test ≡ true
+all_below zero test h = refl
+all_below (suc n) test h = both_true (each_below n test) (test n) (all_below n test (λ k l. h k (omega arith))) (h n (omega arith))
+
 pub at_16 : (test : ℕ → Bool) → each_below 16 test ≡ true → (k : ℕ) → k < 16 → test k ≡ true
 at_16 test e k h = below 16 test e k h
 
 -- ---- equal elements
-
-abbrev pub same_whole : ℤ → ℤ → Bool
-same_whole (pos m) (pos n) = m == n
-same_whole (negsuc m) (negsuc n) = m == n
-same_whole (pos m) (negsuc n) = false
-same_whole (negsuc m) (pos n) = false
-
-abbrev pub same : Element → Element → Bool
-same x y = same_whole x.a y.a && same_whole x.b y.b && same_whole x.c y.c && same_whole x.d y.d
 
 same_whole_is : (x y : ℤ) → same_whole x y ≡ true → x ≡ y
 same_whole_is (pos m) (pos n) e = ap pos (eqb-true m n e)
@@ -50,26 +45,37 @@ same_is x y e =
     let pq = and_left (p && q) r pqr in
     same_element x y (same_whole_is x.a y.a (and_left p q pq)) (same_whole_is x.b y.b (and_right p q pq)) (same_whole_is x.c y.c (and_right (p && q) r pqr)) (same_whole_is x.d y.d (and_right (p && q && r) s e))
 
+same_whole_self : (x : ℤ) → same_whole x x ≡ true
+same_whole_self (pos n) = eq-eqb n n refl
+same_whole_self (negsuc n) = eq-eqb n n refl
+
+same_self : (x : Element) → same x x ≡ true
+same_self x =
+    let p = same_whole x.a x.a in let q = same_whole x.b x.b in let r = same_whole x.c x.c in let s = same_whole x.d x.d in
+    both_true (p && q && r) s (both_true (p && q) r (both_true p q (same_whole_self x.a) (same_whole_self x.b)) (same_whole_self x.c)) (same_whole_self x.d)
+
+pub same_if : (x y : Element) → x ≡ y → same x y ≡ true
+same_if x y e = ap (same x) (sym e) ∙ same_self x
+
 -- ---- unitary gates
 
-abbrev pub is_unitary : Gate → Bool
-is_unitary g = each_below (2 ^ g.arity) (λ row. each_below (2 ^ g.arity) (λ column.
-    same (gram_entry g row column) (identity_entry g row column) && same (cogram_entry g row column) (identity_entry g row column)))
-
-both_products : (g : Gate) → is_unitary g ≡ true → (r c : ℕ) → r < 2 ^ g.arity → c < 2 ^ g.arity →
-    (gram_entry g r c ≡ identity_entry g r c) × (cogram_entry g r c ≡ identity_entry g r c)
-both_products g e r c h l =
-    let both = below (2 ^ g.arity) (λ j. same (gram_entry g r j) (identity_entry g r j) && same (cogram_entry g r j) (identity_entry g r j))
-    (below (2 ^ g.arity) (λ i. each_below (2 ^ g.arity) (λ j. same (gram_entry g i j) (identity_entry g i j) && same (cogram_entry g i j) (identity_entry g i j))) e r h) c l in (
-      same_is (gram_entry g r c) (identity_entry g r c) (and_left (same (gram_entry g r c) (identity_entry g r c)) (same (cogram_entry g r c) (identity_entry g r c)) both),
-      same_is (cogram_entry g r c) (identity_entry g r c) (and_right (same (gram_entry g r c) (identity_entry g r c)) (same (cogram_entry g r c) (identity_entry g r c)) both),
-    )
+both_products : (g : Gate) → is_unitary g ≡ true → (r c : ℕ) → r < 2 ^ g.arity → c < 2 ^ g.arity → has_products g r c ≡ true
+unfolding is_unitary
+both_products g e r c h l = below (2 ^ g.arity) (has_products g r) (below (2 ^ g.arity) (λ i. each_below (2 ^ g.arity) (has_products g i)) e r h) c l
 
 pub unitary_if : (g : Gate) → is_unitary g ≡ true → IsUnitary g
 unitary_if g e = record {
-  rows = λ r c i j. (both_products g e r c i j).0;
-  columns = λ r c i j. (both_products g e r c i j).1;
+  rows = λ r c i j. same_is (gram_entry g r c) (identity_entry g r c)
+      (and_left (same (gram_entry g r c) (identity_entry g r c)) (same (cogram_entry g r c) (identity_entry g r c)) (both_products g e r c i j));
+  columns = λ r c i j. same_is (cogram_entry g r c) (identity_entry g r c)
+      (and_right (same (gram_entry g r c) (identity_entry g r c)) (same (cogram_entry g r c) (identity_entry g r c)) (both_products g e r c i j));
 }
+
+pub tested_if : (g : Gate) → IsUnitary g → is_unitary g ≡ true
+unfolding is_unitary
+tested_if g u = all_below (2 ^ g.arity) (λ row. each_below (2 ^ g.arity) (has_products g row)) (λ r i. all_below (2 ^ g.arity) (has_products g r) (λ c j.
+    both_true (same (gram_entry g r c) (identity_entry g r c)) (same (cogram_entry g r c) (identity_entry g r c))
+    (same_if (gram_entry g r c) (identity_entry g r c) (u.rows r c i j)) (same_if (cogram_entry g r c) (identity_entry g r c) (u.columns r c i j))))
 
 -- ---- small entries
 

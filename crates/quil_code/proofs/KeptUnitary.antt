@@ -93,7 +93,7 @@ no_right x y e = ap (λ (z : Element). times x (conjugate z)) e ∙ times_zero x
 low_or_high : (r n : ℕ) → (r < n) ⊎ (n ≤ r)
 low_or_high r n = grind arith
 
-same_shift : (r c n : ℕ) → n ≤ r → n ≤ c → (r - n == c - n) ≡ (r == c)
+pub same_shift : (r c n : ℕ) → n ≤ r → n ≤ c → (r - n == c - n) ≡ (r == c)
 same_shift r c n h l = grind (arith, nat_tests)
 
 module _ (g h : Gate) (size : g.arity ≡ h.arity) (root : g.root_twos ≡ h.root_twos) (u : RowsOf g) (v : RowsOf h) where

@@ -1,5 +1,6 @@
 pub mod Computed
 pub mod Unitary
+pub mod UnitaryBounds
 pub mod Small
 pub mod Modifications
 pub mod SplitSums

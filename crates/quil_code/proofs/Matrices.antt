@@ -2,6 +2,7 @@
 use Rattle.std.proofs.Common.{◌≡◌, ◌⊎◌, inl, inr, slice_set, slice_index_or, length, get_or, zero, suc, [], ◌∷◌, All, refl, sym, ◌∙◌, ap, ℕ, ◌+◌, ◌*◌, ◌/◌, ◌%◌, ◌^◌, ◌<◌, ◌≤◌, List, arith, rules, subst}
 use Rattle.std.specs.Prelude.{pos}
 use Rattle.std.proofs.lemmas.List.{get_or-set_same, get_or-set_other, length-set}
+use Rattle.std.proofs.lemmas.Int.{ints}
 use Rattle.std.proofs.lemmas.Nat.{div-mul-add, mod-mul-add, row_fits}
 use Rattle.qvm_ring.specs.Ring.{Element, nought, times, conjugate}
 use Rattle.qvm_ring.specs.Gate.{Gate, IsUnitary, gram_entry, cogram_entry, identity_entry}
@@ -11,11 +12,13 @@ use Rattle.qvm_ring.specs.Multiply.{IsWithin}
 use Rattle.qvm_ring.proofs.Products.{at_elements}
 use Rattle.qvm_ring.proofs.Summed.{sum_same}
 use Rattle.quil_code.specs.declared.standard_gate.StandardGate.{StandardGate}
-use Rattle.quil_code.specs.StandardGates.{form_of, entry_of, standard}
+use Rattle.quil_code.specs.StandardGates.{form_of, standard}
 use Rattle.quil_code.specs.Entries.{HasEntries}
 use Rattle.quil_code.specs.Matrices.{Matrix, matrix_gate, IsMatrix, IsGate}
 use Rattle.quil_code.proofs.Unitary.{standard_unitary}
+use Rattle.quil_code.specs.Controls.{daggered}
 use Rattle.quil_code.proofs.Small.{entries_within}
+use Rattle.quil_code.proofs.KeptUnitary.{unitary_daggered}
 
 -- ---- the same entries, the same products
 
@@ -49,21 +52,27 @@ module _ (g h : Gate) (same : IsGate g h) where
 
 -- ---- lists of entries
 
-abbrev pub matrix_from : StandardGate → List Element → Matrix
-matrix_from g zs = record { arity = (form_of g).arity; root_twos = (form_of g).root_twos; entries = zs }
+abbrev pub matrix_from : Gate → List Element → Matrix
+matrix_from w zs = record { arity = w.arity; root_twos = w.root_twos; entries = zs }
 
-pub is_gate_of_list : (g : StandardGate) (k : ℕ) (zs : List Element) → HasEntries g k (2 ^ (form_of g).arity) (2 ^ (form_of g).arity * 2 ^ (form_of g).arity) zs →
-    IsGate (standard g k) (matrix_gate (matrix_from g zs))
-is_gate_of_list g k zs h =
-    let n = 2 ^ (form_of g).arity in
+pub is_gate_of_list : (w : Gate) (zs : List Element) → HasEntries w.entry (2 ^ w.arity) (2 ^ w.arity * 2 ^ w.arity) zs → IsGate w (matrix_gate (matrix_from w zs))
+is_gate_of_list w zs h =
+    let n = 2 ^ w.arity in
     record {
       arity = refl;
       root_twos = refl;
       entries = λ row column i j.
           h (row * n + column) (omega (arith, row_fits row n n n i (let r : n ≤ n = omega arith in r), j))
-          ∙ ap (λ (r : ℕ). entry_of g k r ((row * n + column) % n)) (div-mul-add row n column j)
-          ∙ ap (entry_of g k row) (mod-mul-add row n column j);
+          ∙ ap (λ (r : ℕ). w.entry r ((row * n + column) % n)) (div-mul-add row n column j)
+          ∙ ap (w.entry row) (mod-mul-add row n column j);
     }
+
+-- a gate that a matrix can be
+pub record IsFine (w : Gate) : Type 0 where
+  pub few : w.arity ≤ 3
+  pub light : w.root_twos ≤ 40
+  pub small : (row column : ℕ) → row < 2 ^ w.arity → column < 2 ^ w.arity → IsWithin (2 ^ 20) (w.entry row column)
+  pub unitary : IsUnitary w
 
 three_at_most : (g : StandardGate) → (form_of g).arity ≤ 3
 three_at_most g = search rules
@@ -71,24 +80,46 @@ three_at_most g = search rules
 two_at_most : (g : StandardGate) → (form_of g).root_twos ≤ 40
 two_at_most g = search rules
 
-wider : (z y : Element) → z ≡ y → IsWithin 2 y → IsWithin (2 ^ 20) z
-wider z y e w = subst (λ (x : Element). IsWithin (2 ^ 20) x) (sym e) (record { a = omega (arith, w.a); b = omega (arith, w.b); c = omega (arith, w.c); d = omega (arith, w.d) })
+wider : (z : Element) → IsWithin 2 z → IsWithin (2 ^ 20) z
+wider z w = record { a = omega (arith, w.a); b = omega (arith, w.b); c = omega (arith, w.c); d = omega (arith, w.d) }
 
-few_of_form : (g : StandardGate) → 2 ^ (form_of g).arity * 2 ^ (form_of g).arity ≤ 64
-few_of_form g = search rules
+pub fine_standard : (g : StandardGate) (k : ℕ) → k < 16 → IsFine (standard g k)
+fine_standard g k b = record {
+  few = three_at_most g;
+  light = two_at_most g;
+  small = λ row column i j. wider _ (entries_within g k row column b i j);
+  unitary = standard_unitary g k b;
+}
 
-pub few_places : (g : StandardGate) (n : ℕ) → n ≡ 2 ^ (form_of g).arity → n * n ≤ 64
-few_places g n e = subst (λ (k : ℕ). k * k ≤ 64) (sym e) (few_of_form g)
+conjugate_within : (z : Element) → IsWithin (2 ^ 20) z → IsWithin (2 ^ 20) (conjugate z)
+conjugate_within z w = record { a = w.a; b = omega (arith, ints, w.d); c = omega (arith, ints, w.c); d = omega (arith, ints, w.b) }
 
-pub is_matrix_of_list : (g : StandardGate) (k : ℕ) (zs : List Element) → k < 16 → HasEntries g k (2 ^ (form_of g).arity) (2 ^ (form_of g).arity * 2 ^ (form_of g).arity) zs →
-    IsMatrix (matrix_from g zs)
-is_matrix_of_list g k zs b h =
-    let same = is_gate_of_list g k zs h in
+pub fine_daggered : (x : Matrix) → IsMatrix x → IsFine (daggered (matrix_gate x))
+fine_daggered x h = record {
+  few = h.few;
+  light = h.light;
+  small = λ row column i j. conjugate_within _ (h.small column row j i);
+  unitary = unitary_daggered (matrix_gate x) h.unitary;
+}
+
+few_of_arity : (a : ℕ) → a ≤ 3 → 2 ^ a * 2 ^ a ≤ 64
+few_of_arity zero h = omega arith
+few_of_arity (suc zero) h = omega arith
+few_of_arity (suc (suc zero)) h = omega arith
+few_of_arity (suc (suc (suc zero))) h = omega arith
+few_of_arity (suc (suc (suc (suc a)))) h = absurd (omega (arith, h))
+
+pub few_places : (w : Gate) (n : ℕ) → w.arity ≤ 3 → n ≡ 2 ^ w.arity → n * n ≤ 64
+few_places w n h e = subst (λ (k : ℕ). k * k ≤ 64) (sym e) (few_of_arity w.arity h)
+
+pub is_matrix_of_list : (w : Gate) (zs : List Element) → IsFine w → HasEntries w.entry (2 ^ w.arity) (2 ^ w.arity * 2 ^ w.arity) zs → IsMatrix (matrix_from w zs)
+is_matrix_of_list w zs f h =
+    let same = is_gate_of_list w zs h in
     record {
-      few = three_at_most g;
-      light = two_at_most g;
-      small = λ row column i j. wider _ _ (same.entries row column i j) (entries_within g k row column b i j);
-      unitary = unitary_same (standard g k) (matrix_gate (matrix_from g zs)) same (standard_unitary g k b);
+      few = f.few;
+      light = f.light;
+      small = λ row column i j. subst (λ (z : Element). IsWithin (2 ^ 20) z) (sym (same.entries row column i j)) (f.small row column i j);
+      unitary = unitary_same w (matrix_gate (matrix_from w zs)) same f.unitary;
     }
 
 -- ---- one more entry
@@ -96,9 +127,9 @@ is_matrix_of_list g k zs b h =
 before_or_at : (i p : ℕ) → i < p + 1 → (i < p) ⊎ (i ≡ p)
 before_or_at i p h = grind arith
 
-pub one_more_entry : (g : StandardGate) (k n p : ℕ) (zs : List Amp) (z : Amp) → p < length zs → HasEntries g k n p (elements_of zs) → element_of z ≡ entry_of g k (p / n) (p % n) →
-    HasEntries g k n (p + 1) (elements_of (slice_set zs p z))
-one_more_entry g k n p zs z b h e = λ i l.
+pub one_more_entry : (entry : ℕ → ℕ → Element) (n p : ℕ) (zs : List Amp) (z : Amp) → p < length zs → HasEntries entry n p (elements_of zs) → element_of z ≡ entry (p / n) (p % n) →
+    HasEntries entry n (p + 1) (elements_of (slice_set zs p z))
+one_more_entry entry n p zs z b h e = λ i l.
     let longer : length (slice_set zs p z) ≡ length zs = length-set zs p z in
     elim (before_or_at i p l) [
       | inl a ↦ at_elements (slice_set zs p z) i z (omega (arith, longer, a, b))
@@ -109,25 +140,23 @@ one_more_entry g k n p zs z b h e = λ i l.
           ∙ ap (λ (j : ℕ). element_of (get_or (slice_set zs p z) j z)) f
           ∙ ap element_of (get_or-set_same zs p z z b)
           ∙ e
-          ∙ sym (ap (λ (j : ℕ). entry_of g k (j / n) (j % n)) f)
+          ∙ sym (ap (λ (j : ℕ). entry (j / n) (j % n)) f)
     ]
 
 -- ---- the fields of a matrix
 
-module _ (g : StandardGate) (k : ℕ) (zs : List Element) (a m : ℕ) (e : a ≡ (form_of g).arity) (f : m ≡ (form_of g).root_twos)
-    (h : HasEntries g k (2 ^ (form_of g).arity) (2 ^ (form_of g).arity * 2 ^ (form_of g).arity) zs) where
-  from_parts : matrix_from g zs ≡ record { arity = a; root_twos = m; entries = zs }
+module _ (w : Gate) (zs : List Element) (n a m : ℕ) (size : n ≡ 2 ^ w.arity) (e : a ≡ w.arity) (f : m ≡ w.root_twos) (g : HasEntries w.entry n (n * n) zs) where
+  by_size : HasEntries w.entry (2 ^ w.arity) (2 ^ w.arity * 2 ^ w.arity) zs
+  by_size = subst (λ (j : ℕ). HasEntries w.entry j (j * j) zs) size g
+
+  from_parts : matrix_from w zs ≡ record { arity = a; root_twos = m; entries = zs }
   from_parts i = record { arity = sym e i; root_twos = sym f i; entries = zs }
 
-  pub is_matrix_of_parts : k < 16 → IsMatrix (record { arity = a; root_twos = m; entries = zs })
-  is_matrix_of_parts b = subst IsMatrix from_parts (is_matrix_of_list g k zs b h)
+  pub is_matrix_of_parts : IsFine w → IsMatrix (record { arity = a; root_twos = m; entries = zs })
+  is_matrix_of_parts b = subst IsMatrix from_parts (is_matrix_of_list w zs b by_size)
 
-  pub is_gate_of_parts : IsGate (standard g k) (matrix_gate (record { arity = a; root_twos = m; entries = zs }))
-  is_gate_of_parts = subst (λ (x : Matrix). IsGate (standard g k) (matrix_gate x)) from_parts (is_gate_of_list g k zs h)
-
-pub entries_by_size : (g : StandardGate) (k n : ℕ) (zs : List Element) → n ≡ 2 ^ (form_of g).arity → HasEntries g k n (n * n) zs →
-    HasEntries g k (2 ^ (form_of g).arity) (2 ^ (form_of g).arity * 2 ^ (form_of g).arity) zs
-entries_by_size g k n zs e h = subst (λ (j : ℕ). HasEntries g k j (j * j) zs) e h
+  pub is_gate_of_parts : IsGate w (matrix_gate (record { arity = a; root_twos = m; entries = zs }))
+  is_gate_of_parts = subst (λ (x : Matrix). IsGate w (matrix_gate x)) from_parts (is_gate_of_list w zs by_size)
 
 -- ---- an entry of the code
 

@@ -6,9 +6,11 @@ use Rattle.quil_code.specs.declared.standard_gate.StandardGate.{StandardGate}
 use Rattle.quil_code.specs.declared.standard_gate.StandardGate.TheVariants as gate
 use Rattle.quil_code.specs.StandardGates.{standard, phase, minus, upper, lower}
 use Rattle.quil_code.specs.Entries.{up, down}
-use Rattle.quil_code.proofs.Computed.{at_16, same, same_is, is_unitary, unitary_if}
+use Rattle.quil_code.specs.Unitary.{same, is_unitary}
+use Rattle.quil_code.proofs.Computed.{at_16, same_is, unitary_if}
 
 passes : (g : StandardGate) (k : ℕ) → k < 16 → is_unitary (standard g k) ≡ true
+unfolding is_unitary
 passes gate.I k h = refl
 passes gate.X k h = refl
 passes gate.Y k h = refl

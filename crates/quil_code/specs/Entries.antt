@@ -2,8 +2,6 @@
 use Rattle.std.specs.Prelude.{ℕ, ◌≡◌, ◌-◌, ◌/◌, ◌%◌, ◌<◌, ◌==◌, if◌then◌else◌, List}
 use Rattle.qvm_ring.specs.Ring.{Element}
 use Rattle.qvm_ring.specs.Views.{at}
-use Rattle.quil_code.specs.declared.standard_gate.StandardGate.{StandardGate}
-use Rattle.quil_code.specs.StandardGates.{entry_of}
 
 -- e^{iθ/2} and e^{-iθ/2} are ω to these powers, at odd k both times e^{iθ/2}
 abbrev pub up : ℕ → ℕ
@@ -12,6 +10,6 @@ up k = if k % 2 == 0 then k / 2 else k
 abbrev pub down : ℕ → ℕ
 down k = if k % 2 == 0 then 8 - k / 2 else 0
 
--- so many places from the first on have the entries of a gate at k eighths, in rows of n
-abbrev pub HasEntries : StandardGate → ℕ → ℕ → ℕ → List Element → Type 0
-HasEntries g k n count zs = (i : ℕ) → i < count → at zs i ≡ entry_of g k (i / n) (i % n)
+-- so many places from the first on have these entries, in rows of n
+abbrev pub HasEntries : (ℕ → ℕ → Element) → ℕ → ℕ → List Element → Type 0
+HasEntries entry n count zs = (i : ℕ) → i < count → at zs i ≡ entry (i / n) (i % n)

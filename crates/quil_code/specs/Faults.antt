@@ -1,6 +1,6 @@
 -- What faults and refusals say: a row for each.
 use Rattle.std.specs.Prelude.{ℕ, ℤ, pos, List, [], ◌∷◌, codes}
-use Rattle.qvm_diagnostic.specs.Report.{Value, Number, Word, Report}
+use Rattle.qvm_diagnostic.specs.Report.{Number, Word, Report}
 use Rattle.quil_memory.specs.declared.fault.LayoutFault.{LayoutFault}
 use Rattle.quil_memory.specs.declared.fault.LayoutFault.TheVariants as layout
 use Rattle.quil_code.specs.declared.fault.ClassicFault.{ClassicFault}

@@ -9,3 +9,7 @@ pub mod Controls
 pub mod Matrices
 pub mod Squares
 pub mod Acts
+pub mod LinearAngles
+pub mod GateCodes
+pub mod Angles
+pub mod Unitary

@@ -8,7 +8,7 @@ use arrayvec::ArrayVec;
 use std::marker::Model;
 
 /// The matrix at a pattern of control bits, of which the first control's is the most significant.
-#[derive(Drop)]
+#[derive(Default, Drop)]
 pub struct Piece {
     pub pattern: u32,
     pub matrix: Matrix,

@@ -1,6 +1,6 @@
 //! Laws of the standard gates, and of gates under modifiers.
 
-ghost use Rattle.std.specs.Prelude.{◌≡◌, ◌≢◌, ◌<◌, ℕ, pos, negsuc, List, ◌++◌, length, AllPairs};
+ghost use Rattle.std.specs.Prelude.{◌≡◌, ◌≢◌, ◌<◌, ℕ, pos, negsuc, true, List, ◌++◌, length, AllPairs};
 ghost use Rattle.qvm_ring.specs.Ring.{nought, unit};
 ghost use Rattle.qvm_ring.specs.Ray.{Ray};
 ghost use Rattle.qvm_ring.specs.Gate.{Gate, IsUnitary, local_state, product_at};
@@ -8,6 +8,7 @@ ghost use Rattle.qvm_ring.specs.Examples.{element};
 ghost use Rattle.quil_code.specs.Acts.{Act, IsAct, qubits_of, act_gate, matrix_at, piece_product};
 ghost use Rattle.quil_code.specs.Controls.{Modification, modified, controls_of, is_dagger_of, daggered_if, under, IsFamily, block_at, block_product};
 ghost use Rattle.quil_code.specs.StandardGates.{standard, entry_of};
+ghost use Rattle.quil_code.specs.Unitary.{is_unitary};
 ghost use Rattle.quil_code.specs.declared.standard_gate.StandardGate.{StandardGate};
 ghost use Rattle.quil_code.specs.declared.standard_gate.StandardGate.TheVariants.{H, Rx, Ry, Rz, Cphase01, Ccnot, Cswap, Iswap, Pswap};
 
@@ -15,6 +16,13 @@ ghost use Rattle.quil_code.specs.declared.standard_gate.StandardGate.TheVariants
 #[tactic(auto, using(crate::proofs::Unitary::standard_unitary))]
 pub fn standard_gates_are_unitary()
     ensures { (g : StandardGate) (k : ℕ) → k < 16 → IsUnitary (standard g k) }
+{}
+
+/// A gate is unitary exactly where its test says so.
+#[tactic(auto, using(crate::proofs::Computed::unitary_if, crate::proofs::Computed::tested_if))]
+pub fn unitarity_is_tested()
+    ensures yes { (g : Gate) → is_unitary g ≡ true → IsUnitary g }
+    ensures no { (g : Gate) → IsUnitary g → is_unitary g ≡ true }
 {}
 
 /// Entries as the Quil specification has them: at angles of π, π/2 and 2π those of RX, RY and RZ, and at π/4 those times e^{iπ/8}.
@@ -81,7 +89,7 @@ pub fn acts_are_blocks()
         product_at (act_gate a) (qubits_of a) ray x ≡ piece_product a.root_twos (matrix_at a.pieces (local_state a.controls x)) a.targets ray x }
 {}
 
-/// Each act's gate is unitary, so its product with a ray is never empty.
+/// Each act's gate is unitary.
 #[tactic(auto, using(crate::proofs::UnitaryActs::act_unitary))]
 pub fn acts_are_unitary()
     ensures { (a : Act) → IsAct a → IsUnitary (act_gate a) }

@@ -4,11 +4,12 @@ ghost use Rattle.std.specs.Prelude.{◌≡◌, ◌+◌, ◌*◌, ◌^◌, ◌<�
 ghost use Rattle.qvm_ring.specs.Gate.{IsUnitary};
 ghost use Rattle.qvm_ring.specs.Views.{element_of, elements_of};
 ghost use Rattle.qvm_ring.specs.Multiply.{IsWithin};
-ghost use Rattle.quil_code.specs.StandardGates.{form_of, standard};
+ghost use Rattle.quil_code.specs.Controls.{daggered};
+ghost use Rattle.quil_code.specs.StandardGates.{form_of, entry_of, standard};
 ghost use Rattle.quil_code.specs.Entries.{HasEntries};
 ghost use Rattle.quil_code.specs.Matrices.{matrix_gate, IsMatrix, IsGate};
 
-use crate::square::{Square, is_unitary};
+use crate::square::{Square, conjugate, is_unitary};
 use crate::standard_gate::StandardGate;
 use qvm_ring::Amp;
 use std::marker::Model;
@@ -36,7 +37,7 @@ impl Model for Matrix {
 impl Matrix {
     /// The matrix of these entries, row by row, if it is unitary: that is, if its product with its conjugate transpose is the
     /// identity in both orders. It is on at most 3 qubits, over √2^m with m at most 40, and its coefficients are at most 2^20 in
-    /// absolute value. What stands behind the last entry doesn't matter.
+    /// absolute value. What stands behind the last entry is kept, and no entry.
     pub fn new(arity: u32, root_twos: u32, entries: [Amp; 64]) -> Option<Matrix>
         requires few { arity ≤ 3 }
         requires light { root_twos ≤ 40 }
@@ -79,10 +80,54 @@ impl Matrix {
 
     /// The m of the √2^m over which its entries are.
     pub fn root_twos(&self) -> u32
-        ensures { result ≡ self.now.root_twos }
+        ensures value { result ≡ self.now.root_twos }
+        ensures form { IsMatrix self.now }
     {
         self.root_twos
     }
+
+    /// The same matrix.
+    pub fn copied(&self) -> Matrix
+        ensures { result ≡ self.now }
+    {
+        Matrix {
+            arity: self.arity,
+            root_twos: self.root_twos,
+            entries: self.entries,
+        }
+    }
+
+    /// Its conjugate transpose.
+    pub fn dagger(&self) -> Matrix
+        ensures { IsGate (daggered (matrix_gate self.now)) (matrix_gate result) }
+    {
+        let entries = daggered_entries(self, size_of_arity(self.arity()));
+        Matrix {
+            arity: self.arity(),
+            root_twos: self.root_twos(),
+            entries,
+        }
+    }
+}
+
+impl Default for Matrix {
+    /// A matrix for the blank places of lists.
+    fn default() -> Matrix {
+        matrix_of(StandardGate::I, 0)
+    }
+}
+
+// The entries of the conjugate transpose, row by row.
+fn daggered_entries(matrix: &Matrix, size: u8) -> [Amp; 64]
+    requires size { size ≡ 2 ^ matrix.now.arity }
+    requires few { matrix.now.arity ≤ 3 }
+    ensures { HasEntries (daggered (matrix_gate matrix.now)).entry size (size * size) (elements_of result) }
+{
+    let mut entries = [Amp::ZERO; 64];
+    for place in 0..size * size {
+        entries[usize::from(place)] = conjugate(matrix.entry(place % size, place / size));
+    }
+    entries
 }
 
 /// 2 to the number of qubits.
@@ -119,7 +164,7 @@ pub(crate) fn place_of(arity: u32, row: u8, column: u8) -> usize
 fn entries_of(gate: StandardGate, eighths: u8, size: u8) -> [Amp; 64]
     requires angle { eighths < 16 }
     requires size { size ≡ 2 ^ (form_of gate).arity }
-    ensures { HasEntries gate eighths size (size * size) (elements_of result) }
+    ensures { HasEntries (entry_of gate eighths) size (size * size) (elements_of result) }
 {
     let mut entries = [Amp::ZERO; 64];
     for place in 0..size * size {

@@ -25,7 +25,8 @@ const NOTHING: Wide = Wide {
     d: 0,
 };
 
-fn conjugate(z: Amp) -> Amp
+/// The complex conjugate.
+pub(crate) fn conjugate(z: Amp) -> Amp
     requires { IsWithin (2 ^ 20) (element_of z) }
     ensures value { element_of result ≡ conjugate (element_of z) }
     ensures bound { IsWithin (2 ^ 20) (element_of result) }

@@ -1,6 +1,6 @@
 -- A standard gate on a vector: from the sums of its table to the gate applied.
-use Rattle.std.proofs.Common.{◌≡◌, ◌≢◌, refl, sym, ◌∙◌, ap, subst, ℕ, ◌*◌, ◌^◌, ◌<◌, ◌≤◌, true, false, List, [], length, All, AllPairs, arith}
-use Rattle.std.specs.Prelude.{nat_lt, nat_abs}
+use Rattle.std.proofs.Common.{◌≡◌, ◌≢◌, refl, sym, ◌∙◌, ap, subst, ℕ, ◌*◌, ◌^◌, ◌<◌, ◌≤◌, ◌==◌, true, false, List, [], ◌∷◌, length, All, AllPairs, arith}
+use Rattle.std.specs.Prelude.{nat_lt, nat_abs, if◌then◌else◌}
 use Rattle.std.proofs.Math.Nat.{mul-le-mul}
 use Rattle.std.proofs.lemmas.Bool.{ltb-true, ltb-false}
 use Rattle.std.proofs.lemmas.List.{length-map}
@@ -8,8 +8,8 @@ use Rattle.qvm_ring.specs.declared.amp.Amp.{Amp}
 use Rattle.qvm_ring.specs.declared.wide.Wide.{Wide}
 use Rattle.qvm_ring.specs.declared.table.Table.{Table}
 use Rattle.qvm_ring.specs.declared.table.StandardGate.{StandardGate}
-use Rattle.qvm_ring.specs.Ring.{Element, norm_whole}
-use Rattle.qvm_ring.specs.Ray.{Ray, ray_of, reduced, weight, weight_limit}
+use Rattle.qvm_ring.specs.Ring.{Element, nought, norm_whole}
+use Rattle.qvm_ring.specs.Ray.{Ray, amplitude_at, ray_of, reduced, weight, weight_limit}
 use Rattle.qvm_ring.specs.Gate.{Gate, product_at, applied}
 use Rattle.qvm_ring.specs.Views.{element_of, elements_of, wide_elements_of, at, map_of, IsBelow}
 use Rattle.qvm_ring.specs.Vector.{IsVector}
@@ -36,6 +36,16 @@ small_element z h = record {
   c = below_by_square (nat_abs z.c) (omega arith);
   d = below_by_square (nat_abs z.d) (omega arith);
 }
+
+nought_below : IsBelow (2 ^ 48) nought
+nought_below = record { a = omega arith; b = omega arith; c = omega arith; d = omega arith }
+
+pub light_amplitude : (ray : Ray) (x : ℕ) → weight ray ≤ weight_limit → IsBelow (2 ^ 48) (amplitude_at ray x)
+light_amplitude [] x h = nought_below
+light_amplitude (e ∷ es) x h = elim (e.0 == x) as (λ b. IsBelow (2 ^ 48) (if b then e.1 else amplitude_at es x)) [
+  | true ↦ small_element e.1 (omega (arith, h))
+  | false ↦ light_amplitude es x (omega (arith, h))
+]
 
 pub small_amplitudes : (zs : List Amp) → weight (map_of (elements_of zs)) ≤ weight_limit → All (λ z. IsBelow (2 ^ 48) (element_of z)) zs
 small_amplitudes zs w = λ i d l.

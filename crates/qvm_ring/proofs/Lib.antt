@@ -22,6 +22,7 @@ pub mod LocalStates
 pub mod KeptRays
 pub mod LocalLoops
 pub mod ProductBounds
+pub mod WideLists
 pub mod Products
 pub mod UnitaryGates
 pub mod Applied

@@ -17,6 +17,10 @@ one_more s b p r = omega arith
 power_suc : (n : ℕ) → 2 ^ suc n ≡ 2 * 2 ^ n
 power_suc n = omega arith
 
+-- one more bit
+pub bits_more : (i state bit : ℕ) → state < 2 ^ i → bit < 2 → 2 * state + bit < 2 ^ (i + 1)
+bits_more i state bit h l = let e : i + 1 ≡ suc i = omega arith in omega (arith, h, l, power_suc i, ap (λ (k : ℕ). 2 ^ k) e)
+
 pub local_step : (qs : List ℕ) (x i state d : ℕ) → i < length qs → read_so_far qs x (i + 1) (2 * state + bit_of x (get_or qs i d)) ≡ read_so_far qs x i state
 local_step qs x i state d h =
     let e : drop i qs ≡ get_or qs i d ∷ drop (suc i) qs = drop-cons qs i d h in

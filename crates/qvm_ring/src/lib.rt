@@ -31,10 +31,11 @@ pub use laws::{
     norm_is_product_with_conjugate, quotient_times_root_two, reduced_rays, sign_of_norms,
     x_never_passes_the_limit,
 };
+pub use local::{local_state, with_local};
 pub use measure_laws::{norms_are_positive, outcomes_keep_some};
 pub use multiply::mul;
 pub use ray::Ray;
 pub use reduce::halve;
 pub use signed_norm::Norm;
 pub use sums::norm;
-pub use wide::Wide;
+pub use wide::{Wide, plus};

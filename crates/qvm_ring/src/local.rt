@@ -1,6 +1,6 @@
 //! A gate's own bits of a basis state: those of the qubits that it acts on.
 
-ghost use Rattle.std.specs.Prelude.{◌≡◌, ◌^◌, ◌<◌, ◌≤◌, length, All};
+ghost use Rattle.std.specs.Prelude.{◌≡◌, ℕ, ◌^◌, ◌<◌, ◌≤◌, length, All};
 ghost use Rattle.qvm_ring.specs.Gate.{bit_of, with_bit, local_state, with_local};
 
 // The value of a qubit in a basis state.
@@ -25,10 +25,11 @@ fn with_bit(basis: usize, qubit: u32, bit: usize) -> usize
 
 /// The values of the qubits in a basis state as a number, the first qubit the most significant.
 #[tactic(auto, using(crate::proofs::LocalLoops::local_begun, crate::proofs::LocalLoops::local_step, crate::proofs::LocalLoops::local_done))]
-pub(crate) fn local_state(basis: usize, qubits: &[u32]) -> usize
-    requires few { length qubits.now ≤ 2 }
+pub fn local_state(basis: usize, qubits: &[u32]) -> usize
+    requires few { length qubits.now ≤ 16 }
     requires all { All (λ q. q < 16) qubits.now }
-    ensures { result ≡ local_state qubits.now basis }
+    ensures value { result ≡ local_state qubits.now basis }
+    ensures bound { result < 2 ^ length qubits.now }
 {
     let mut state = 0;
     for qubit in qubits {
@@ -39,11 +40,12 @@ pub(crate) fn local_state(basis: usize, qubits: &[u32]) -> usize
 
 /// The basis state with the qubits set to the bits of `local`, the first qubit to the most significant.
 #[tactic(auto, using(crate::proofs::LocalLoops::with_local_begun, crate::proofs::LocalLoops::with_local_step, crate::proofs::LocalLoops::with_local_done, crate::proofs::LocalLoops::set_below))]
-pub(crate) fn with_local(basis: usize, qubits: &[u32], local: usize) -> usize
+pub fn with_local(basis: usize, qubits: &[u32], local: usize) -> usize
     requires state { basis < 2 ^ 16 }
-    requires few { length qubits.now ≤ 2 }
+    requires few { length qubits.now ≤ 16 }
     requires all { All (λ q. q < 16) qubits.now }
-    ensures { result ≡ with_local qubits.now local basis }
+    ensures value { result ≡ with_local qubits.now local basis }
+    ensures bound { (n : ℕ) → All (λ q. q < n) qubits.now → basis < 2 ^ n → result < 2 ^ n }
 {
     let mut state = basis;
     for place in 0..qubits.len() {

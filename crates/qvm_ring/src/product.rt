@@ -1,6 +1,6 @@
 //! The product of a small gate with a vector of amplitudes.
 
-ghost use Rattle.std.specs.Prelude.{◌≡◌, ◌+◌, ◌*◌, ◌^◌, ◌<◌, ◌≤◌, ℕ, nat_abs, ◌+ℤ◌, length, All, IfOk};
+ghost use Rattle.std.specs.Prelude.{◌≡◌, ◌+◌, ◌*◌, ◌^◌, ◌<◌, ◌≤◌, ℕ, length, All, IfOk};
 ghost use Rattle.qvm_ring.specs.Ring.{plus, times};
 ghost use Rattle.qvm_ring.specs.Ray.{ray_of, amplitude_at};
 ghost use Rattle.qvm_ring.specs.Gate.{product_at};
@@ -13,36 +13,8 @@ use crate::local::{local_state, with_local};
 use crate::multiply::mul;
 use crate::number::Number;
 use crate::table::Table;
-use crate::wide::Wide;
+use crate::wide::{Wide, plus};
 use std::alloc::{AllocError, Global};
-
-const NOTHING: Wide = Wide {
-    a: 0,
-    b: 0,
-    c: 0,
-    d: 0,
-};
-
-fn sum(x: i128, y: i128) -> i128
-    requires left { nat_abs x ≤ 2 ^ 80 }
-    requires right { nat_abs y ≤ 2 ^ 80 }
-    ensures { result ≡ x +ℤ y }
-{
-    x + y
-}
-
-fn plus(x: Wide, y: Wide) -> Wide
-    requires left { IsWithin (2 ^ 80) (wide_element x) }
-    requires right { IsWithin (2 ^ 80) (wide_element y) }
-    ensures { wide_element result ≡ plus (wide_element x) (wide_element y) }
-{
-    Wide {
-        a: sum(x.a, y.a),
-        b: sum(x.b, y.b),
-        c: sum(x.c, y.c),
-        d: sum(x.d, y.d),
-    }
-}
 
 // The product of an entry and an amplitude.
 fn term(entry: Amp, amplitude: Amp) -> Wide
@@ -112,7 +84,7 @@ fn row_sum(amplitudes: &[Amp], width: u32, table: &Table, qubits: &[u32], basis:
     ensures bound { IsBelow (2 ^ 125) (wide_element result) }
 {
     let row = local_state(basis, qubits);
-    let mut so_far = NOTHING;
+    let mut so_far = Wide::ZERO;
     for column in 0..size(table.arity) {
         let other = with_local(basis, qubits, column);
         let amplitude = amplitude_at(amplitudes, other);

@@ -12,6 +12,7 @@ mod amplitudes;
 mod flip;
 mod gates;
 mod measure;
+mod settle;
 #[cfg(test)]
 mod tests;
 

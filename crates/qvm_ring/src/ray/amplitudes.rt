@@ -33,7 +33,7 @@ fn amp_of(list: &[Amp], basis: u32) -> Amp
 impl Ray {
     ghost use Rattle.std.specs.Prelude.{◌≡◌, ◌≢◌, ℕ, ◌^◌, ◌<◌, ◌≤◌, [], length, IfOk};
     ghost use Rattle.qvm_ring.specs.Ray.{State, amplitude_at, weight, weight_limit, reduced};
-    ghost use Rattle.qvm_ring.specs.Views.{element_of, elements_of, map_of};
+    ghost use Rattle.qvm_ring.specs.Views.{element_of, elements_of, map_of, IsBelow};
 
     /// The ray of 2^n amplitudes, for n qubits at most 16, in reduced form.
     ///
@@ -51,10 +51,11 @@ impl Ray {
         Ok(Ray { qubits, amplitudes })
     }
 
-    /// The amplitude of a basis state.
+    /// The amplitude of a basis state. Its coefficients are below 2^48 in absolute value, since the ray weighs at most 2^94.
     pub fn amp(&self, basis: u32) -> Amp
         requires { basis < 2 ^ self.now.qubits }
-        ensures { element_of result ≡ amplitude_at self.now.amplitudes basis }
+        ensures value { element_of result ≡ amplitude_at self.now.amplitudes basis }
+        ensures bound { IsBelow (2 ^ 48) (element_of result) }
     {
         amp_of(&self.amplitudes, basis)
     }
