@@ -7,8 +7,8 @@ use Rattle.quil_parse.specs.Program.{IsTreeOf, IsFaultOf}
 use Rattle.quil_code.specs.declared.load_fault.LoadFault.{LoadFault}
 use Rattle.quil_code.specs.declared.load_fault.LoadFault.TheVariants as fault
 use Rattle.quil_code.specs.Program.{Program}
-use Rattle.quil_value.specs.Results.{and_then}
-use Rattle.quil_link.specs.Passes.{unless, first_of, each}
+use Rattle.quil_value.specs.Results.{and_then, each}
+use Rattle.quil_link.specs.Passes.{unless, first_of}
 use Rattle.quil_link.specs.Built.{not_built}
 use Rattle.quil_link.specs.Layout.{layout_of}
 use Rattle.quil_link.specs.Counted.{counted}

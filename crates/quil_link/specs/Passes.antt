@@ -1,7 +1,6 @@
 -- Passes that follow one another: the first fault is what they give.
-use Rattle.std.specs.Prelude.{◌≡◌, ◌⊎◌, List, [], ◌∷◌, Option, Some, None, Result, Ok, Err}
+use Rattle.std.specs.Prelude.{◌≡◌, ◌⊎◌, List, [], ◌∷◌, Option, Some, None, Result, Err}
 use Rattle.std.specs.Option.{option_or}
-use Rattle.quil_value.specs.Results.{and_then}
 use Rattle.quil_code.specs.declared.load_fault.LoadFault.{LoadFault}
 use Rattle.quil_code.specs.declared.load_fault.LoadFault.TheVariants as fault
 
@@ -14,11 +13,6 @@ unless (Some e) r = Err e
 abbrev pub first_of : {A F : Type 0} → (A → Option F) → List A → Option F
 first_of f [] = None
 first_of f (x ∷ xs) = option_or (f x) (first_of f xs)
-
--- what is given for each element, or the first fault
-abbrev pub each : {A B F : Type 0} → (A → Result B F) → List A → Result (List B) F
-each f [] = Ok []
-each f (x ∷ xs) = and_then (f x) (λ y. and_then (each f xs) (λ ys. Ok (y ∷ ys)))
 
 -- the answer is this, or memory ran out
 abbrev pub Loads : {A : Type 0} → Result A LoadFault → Result A LoadFault → Type 0

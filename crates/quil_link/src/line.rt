@@ -5,7 +5,8 @@ ghost use Rattle.std.specs.Prelude.{◌≡◌, ℕ, ◌<◌, ◌^◌, [], ◌∷
 ghost use Rattle.quil_code.specs.declared.load_fault.LoadFault.TheVariants.{OutOfMemory};
 ghost use Rattle.quil_code.specs.Program.{ClassicFits, OutcomeFits};
 ghost use Rattle.quil_link.specs.Built.{qubit_limit};
-ghost use Rattle.quil_link.specs.Passes.{Loads, each};
+ghost use Rattle.quil_value.specs.Results.{each};
+ghost use Rattle.quil_link.specs.Passes.{Loads};
 ghost use Rattle.quil_link.specs.Types as types;
 ghost use Rattle.quil_link.specs.Linked as linked;
 ghost use Rattle.quil_link.specs.Steps.{IsLinked, AreLinked, OrWantsMemory};

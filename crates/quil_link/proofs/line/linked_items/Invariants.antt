@@ -1,6 +1,5 @@
 use Rattle.std.proofs.Common.{◌≡◌, ◌<◌, ◌^◌, ◌++◌, length, Ok}
-use Rattle.quil_value.specs.Results.{and_then}
-use Rattle.quil_link.specs.Passes.{each}
+use Rattle.quil_value.specs.Results.{and_then, each}
 use Rattle.quil_link.specs.Linked.{linked}
 use Rattle.quil_link.specs.Steps.{AreLinked}
 use Rattle.quil_link.proofs.line.linked_items.Given as goal

@@ -1,0 +1,10 @@
+pub mod Chosen
+pub mod Added
+pub mod Forks
+pub mod Made
+pub mod Formulas
+pub mod Entries
+pub mod Numbers
+pub mod Paddings
+pub mod Matrices
+pub mod Permutations

@@ -1,0 +1,3 @@
+pub mod Pieces
+pub mod Definitions
+pub mod Reading
