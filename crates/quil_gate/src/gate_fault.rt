@@ -16,7 +16,7 @@ pub enum GateFault {
     Lack(Place, Lack),
     /// Its entries have no numerators over √2^40.
     EntryTooLarge,
-    /// Its product with its conjugate transpose isn't the identity.
+    /// Its product with its conjugate transpose isn't the identity, in one order or the other.
     NotUnitary,
     /// Memory ran out.
     OutOfMemory,
